@@ -11,15 +11,13 @@ graph that came out is read, looked at whether it is valid, and written again. R
 last command isn't one. The least processor time of several calls counts; a megabyte is a million bytes.
 
 With --growth documents that have many things of one sort are carried out, and the graphs that come out read and written
-again, at two sizes: four times the size takes about four times as long. With --instructions valgrind's callgrind counts, in
-millions, what the program takes for the documents, in all and to read them alone: other work on the machine changes nothing.
+again, at two sizes: four times the size takes about four times as long. With --instructions what the program takes for the
+documents is counted in millions, in all and to read them alone: other work on the machine changes nothing.
 """
 import argparse
 import ctypes
 import json
 import pathlib
-import re
-import subprocess
 import sys
 import time
 
@@ -29,6 +27,7 @@ sys.path.append(str(TOP / "tools"))
 
 import wit  # noqa: E402
 import wit2json  # noqa: E402
+from counting import counted  # noqa: E402
 
 
 def wasi():
@@ -123,16 +122,15 @@ class Library:
 
 
 class Program:
-    """The program, under callgrind."""
+    """The program, whose instructions are counted."""
 
     def __init__(self, path):
-        self.command = ["valgrind", "--tool=callgrind", "--callgrind-out-file=/dev/null", path]
+        self.command = [path]
 
     def timed(self, text, _):
         """What comes out of a document, and the millions of instructions."""
-        ran = subprocess.run(self.command, input=text, capture_output=True, check=False)
-        found = re.search(rb"Collected : (\d+)", ran.stderr)
-        return ran.stdout, int(found[1]) / 1e6 if found else sys.exit(f"no count is told:\n{ran.stderr.decode()}")
+        out, count = counted(self.command, text, (0, 1))
+        return out, count / 1e6
 
 
 def row(library, name, begin, commands, times):

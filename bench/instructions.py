@@ -1,31 +1,20 @@
 #!/usr/bin/env python3
-"""Counts the instructions of the program, and of the original beside it, on the scripts of `bench/growth.py`.
+"""Counts the instructions of the program, and of the original beside it, on the scripts of `bench/kinds.py`.
 
     python3 bench/instructions.py PROGRAM [ORIGINAL] [--kind KIND].. [SIZE ..]
 
-PROGRAM and ORIGINAL are those of `bench/side.py`. Valgrind's callgrind counts them, so other work on the machine changes
+PROGRAM and ORIGINAL are those of `bench/side.py`. `perf` or `valgrind` counts them, so other work on the machine changes
 nothing. Each kind of script (all, where none is named) is run once at each size (1,000, where none is given). The table has
 millions, and ends with the geometric mean of the ratios over the kinds that count in `bench/side.py`.
 """
 import itertools
 import math
 import os
-import re
-import subprocess
 import sys
-import tempfile
 
-from growth import KINDS, write_script
+from counting import counted
+from kinds import KINDS
 from side import APART, NOT_LINEAR
-
-
-def counted(command, script):
-    """How many instructions a program takes for a script."""
-    with open(script, "rb") as given:
-        words = ["valgrind", "--tool=callgrind", "--callgrind-out-file=/dev/null", *command]
-        ran = subprocess.run(words, stdin=given, stdout=subprocess.DEVNULL, stderr=subprocess.PIPE, text=True, check=False)
-    found = re.search(r"Collected : (\d+)", ran.stderr)
-    return int(found[1]) if found else sys.exit(f"{' '.join(words)} tells no count:\n{ran.stderr}")
 
 
 def row_of(kind, size, counts):
@@ -46,13 +35,12 @@ def main(words):
     commands = [[os.path.abspath(it), *words] for it, words in zip(programs, ([], ["--fast"]))]
     print("| script | size | millions |" + (" of the original | ratio |" if len(commands) > 1 else ""), flush=True)
     ratios = []
-    with tempfile.TemporaryDirectory() as folder:
-        for kind, size in itertools.product(kinds or KINDS, sizes or [1000]):
-            script = write_script(folder, kind, size)
-            counts = [counted(it, script) for it in commands]
-            print(row_of(kind, size, counts), flush=True)
-            if len(counts) > 1 and kind not in NOT_LINEAR | APART:
-                ratios.append(counts[0] / counts[1])
+    for kind, size in itertools.product(kinds or KINDS, sizes or [1000]):
+        script = "".join(f"{line}\n" for line in KINDS[kind](size)).encode()
+        counts = [counted(it, script)[1] for it in commands]
+        print(row_of(kind, size, counts), flush=True)
+        if len(counts) > 1 and kind not in NOT_LINEAR | APART:
+            ratios.append(counts[0] / counts[1])
     if ratios:
         print(f"mean of ratios: {math.exp(sum(map(math.log, ratios)) / len(ratios)):.2f}")
     return 0

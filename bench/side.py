@@ -1,5 +1,5 @@
 #!/usr/bin/env python3
-"""Runs the program and the original on the scripts of `bench/growth.py`, side by side.
+"""Runs the program and the original on the scripts of `bench/kinds.py`, side by side.
 
     python3 bench/side.py PROGRAM ORIGINAL [--kind KIND].. [SIZE ..]
 
@@ -20,7 +20,8 @@ import os
 import sys
 import tempfile
 
-from growth import KINDS, ONE_BY_ONE, adopt_children, run, write_script
+from growth import adopt_children, run, write_script
+from kinds import KINDS, ONE_BY_ONE
 
 # in these the original takes more than linear time
 NOT_LINEAR = {"renames", "handed_on", "alias_pushes"}

@@ -46,6 +46,7 @@ BEFORE = {
     "tests-of-wit": "python3 tools/test_wit.py",
     "wit2script": "python3 tools/test_wit2script.py",
     "version": "python3 check/version.py",
+    "tests-of-names": "python3 check/test_colliding_names.py",
     "tests-of-plain-rust": "python3 tools/test_plain_rust.py",
     "tests": "tools/plain-tests",
     "fuzz": "python3 check/fuzz.py --seed {seed}",
@@ -63,12 +64,13 @@ AFTER = {
     "wasi": "WITGRAPH_JSON={witgraph_json} examples/wasi/check.sh {witgraph}",
     "wit2json": "WITGRAPH_JSON={witgraph_json} python3 tools/test_wit2json.py",
     "whole-graphs": "python3 check/whole/test_graphs.py {witgraph_json}",
-    "ways": "python3 check/ways.py {witgraph_explained} --json {witgraph_json}",
+    "ways": "python3 check/ways.py {test_explanations} --json {witgraph_json}",
     "c": "WITGRAPH_SHARED={library}/libwitgraph.so check/c_example.sh",
     "threads": "WITGRAPH_LIBRARY={library} check/threads.sh",
     "release": "check/release.sh --of {library}",
     "plain-rust": "python3 check/plain.py {witgraph} {witgraph_json} {witgraph_dot} --seed {seed}",
     "changed-documents": "python3 check/mutated_documents.py {library}/libwitgraph.so --first {seed} --many 20000",
+    "growth": "python3 bench/growth.py --rows {witgraph} {witgraph_json} {witgraph_dot}",
     "sweep": "python3 check/sweep.py --calls {test_sweep} --scripts {witgraph} --documents {witgraph_json}",
 }
 STEPS = BEFORE | AFTER

@@ -50,6 +50,7 @@ SHIM = "plain/src/shim/"
 # what examples print, which are programs outside of the crate
 EXAMPLES = {
     "worlds": r"app imports one:shop/types\n  record item of 1 fields\nrefused 5: ",
+    "imports": r"world command\n  import wasi:",
     "wasi": r"(?s)wasi:cli@0\.2\.0 command: imports \d+, exports 1\n.*wasi:cli@0\.2\.3 command: imports \d+, exports 1\n",
 }
 # the example that links 200 packages one by one, what it prints, and how long it may take of the processor, in seconds

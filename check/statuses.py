@@ -20,7 +20,10 @@ DOCUMENT = b'{"commands":["package-order"]}'
 OUT = (b'{"replies":[{"packages":[]}],"resolve":{"graph":{"worlds":[],"interfaces":[],"types":[],"packages":[]},'
        b'"details":{"worlds":[],"interfaces":[],"types":[]},"features":{"all":false,"names":[]},"track-rule":"published","sources":[]}}')
 REASON = b"line 2: i_i is no kebab name\n      |\n    2 | interface i_i\n      | ^------------\n"
-# Of each program: arguments, input (None: one that can't be read), whether it can be written; the status, and what is written.
+VERSION, ANY = open(f"{TOP}/VERSION", "rb").read().strip(), b"\xff.."
+USAGE = b"usage: witgraph_json < DOCUMENT\n"
+# Of each program: arguments, input (None: one that can't be read), whether it can be written; the status, what is written,
+# and what standard error has, where that isn't nothing. ANY is whatever comes there.
 RUNS = {
     "witgraph": [
         ([], SCRIPT, True, 0, b"pushed a:b\n"),
@@ -33,10 +36,15 @@ RUNS = {
     "witgraph_json": [
         ([], DOCUMENT, True, 0, OUT),
         ([], b"[]", True, 1, b'{"fault":{"path":[],"offset":0,"expected":"an object"}}'),
-        ([], b'{"commands":["\xff"]}', True, 1, b""),
-        ([], None, True, 1, b""),
-        ([], DOCUMENT, False, 1, b""),
-        (["--help"], DOCUMENT, True, 2, b""),
+        ([], b'{"commands":["\xff"]}', True, 1, b"", b"witgraph_json: the document isn't UTF-8\n"),
+        ([], None, True, 1, b"", b"witgraph_json: the document can't be read\n"),
+        ([], DOCUMENT, False, 1, b"", b"witgraph_json: the output can't be written\n"),
+        (["--help"], DOCUMENT, True, 0, USAGE + ANY),
+        (["--version"], DOCUMENT, True, 0, b"witgraph_json " + VERSION + b"\n"),
+        (["--help", "more"], DOCUMENT, True, 2, b"", USAGE + ANY),
+        (["--helps"], DOCUMENT, True, 2, b"", USAGE + ANY),
+        (["document.json"], DOCUMENT, True, 2, b"", USAGE + ANY),
+        (["a name that is longer than any option"], DOCUMENT, True, 2, b"", USAGE + ANY),
     ],
     "witgraph_dot": [([], NO_SCRIPT, True, 1, REASON), ([], NO_UTF8, True, 1, b""), ([], None, True, 1, b""), ([], SCRIPT, False, 1, b"")],
 }
@@ -57,11 +65,16 @@ def ran(program, words, given, is_written, **environment):
 
 def faults(name, program):
     """What a program does otherwise."""
-    for words, given, is_written, status, expected in RUNS[name]:
+    for words, given, is_written, status, *expected in RUNS[name]:
         ended, written, told = ran(program, words, given, is_written)
-        is_right = (ended, written) == (status, expected) and (b"usage: " in told) == (status == 2)
-        if not is_right:
+        wanted_out, wanted_told = (*expected, b"")[:2]
+        if ended != status or not is_same(written, wanted_out) or not is_same(told, wanted_told):
             yield f"{name} {words} of {given}: status {ended}, {written}, {told}; {status}, {expected} are expected"
+
+
+def is_same(text, wanted):
+    """Whether a text is what is wanted, or begins so where anything may come behind that."""
+    return text.startswith(wanted.removesuffix(ANY)) if wanted.endswith(ANY) else text == wanted
 
 
 def main():

@@ -4,7 +4,7 @@
     python3 check/stored.py        # at the top of the repository
 
 - The script of `witgraph`: what it is to print.
-- Explanations of `witgraph_explained`: the line that isn't understood; each refusal with its number and text; each line that
+- Explanations of `test_explanations`: the line that isn't understood; each refusal with its number and text; each line that
   is shown, as the script has it, with its place in the file of its package; ways, as check/ways.py asks.
 - The picture of `witgraph_dot`: its frames, boxes and arrows, as check/pictures.py asks.
 - Documents that come out of `witgraph_json` and of examples/kinds: the replies to commands and to `select` in one package,
@@ -12,7 +12,7 @@
   model knows nothing.
 - What `test_sweep` tells of the last command of each script, or of the merge of its graphs: the refusal, or that there is none;
   and what its calls answer (check/stored_calls.py, which says of which the model knows nothing).
-- What `wit_uses` prints (check/stored_uses.py).
+- What `calls_to_copy` prints (check/stored_uses.py).
 - The commands of `test_json_cases`, which check/script_documents.py writes of the worked scripts, and their number.
 
 Worked scripts, pictures of docs and WASI have checks of their own: check/compare.py, check/pictures.py,
@@ -75,8 +75,8 @@ def wrong_calls():
 
 
 def wrong_uses():
-    if read("crates/wit_uses/stdout") != stored_uses.output():
-        yield f"crates/wit_uses/stdout: the model's is\n{stored_uses.output()}"
+    if read("crates/calls_to_copy/stdout") != stored_uses.output():
+        yield f"crates/calls_to_copy/stdout: the model's is\n{stored_uses.output()}"
 
 
 # ---- explanations
@@ -151,7 +151,7 @@ def misread_faults(of_script, number, told):
 
 
 def wrong_explanations():
-    path = "crates/witgraph_explained/stdin"
+    path = "crates/test_explanations/stdin"
     scripts, told = compare.stored(read(path))
     for name, script in scripts.items():
         yield from (f"{path}: {name}: {it}" for it in explained_faults(script, told[name]))

@@ -2,7 +2,7 @@
 
 Of each graph it asks the whole, its last package, its last interface and its last world. Compared are the calls of CALLS, each
 time in the order in which they are made. Of the others the model knows nothing: copies (`try_clone` answers `()`), names of core
-wasm and futures (worked by hand in check/json_answers.txt and `test_graph`), sums of whole graphs (`state`, of which
+wasm and futures (worked by hand in check/json_answers.txt and `test_resolve`), sums of whole graphs (`state`, of which
 check/worked_graphs.txt has the graphs of other scripts), and calls of layers below, which end as the calls of a `Resolve` do.
 """
 import json

@@ -1,4 +1,4 @@
-"""What `wit_uses` prints, by the model: each use in words of scripts, in which its packages are those of its module."""
+"""What `calls_to_copy` prints, by the model: each use in words of scripts, in which its packages are those of its module."""
 import worked_graphs
 from model.scripts import Rules, Session
 

@@ -39,7 +39,7 @@ PLANTED = {
     "an old name of a call": ("docs/ARCHITECTURE.md", "`check_and_elaborate` checks", "`elaborate_worlds` checks"),
     "a call at another file of WALK": ("docs/WALK.md", "`sort.rt`: `sort_groups`", "`several.rt`: `sort_groups`"),
     "a line of choice of PICTURES": ("docs/PICTURES.md", "`# only-added`", "`# just-added`"),
-    "a clause of another function": ("docs/GUARANTEES.md", "`merge`: `ok`, `err`, `refuses`", "`merge`: `ok`, `cause`, `refuses`"),
+    "a clause of another function": ("docs/GUARANTEES.md", "`merge`: `ok`, `cause`, `refuses`", "`merge`: `ok`, `unchanged`, `refuses`"),
     "a law that is none": ("docs/GUARANTEES.md", "laws `labels_stay`, `export_keys_stay`", "laws `labels_stay`, `is_elaborable`"),
     "a figure of PERFORMANCE": ("docs/PERFORMANCE.md", "| 0.095, 0.135 |", "| 0.015, 0.135 |"),
     # others
@@ -56,7 +56,7 @@ PLANTED = {
     "the order of causes in JSON": ("docs/JSON.md", '`"label-clash"`, `"name-taken"`', '`"name-taken"`, `"label-clash"`'),
     "a fault in JSON": ("docs/JSON.md", '"expected":"a text"', '"expected":"some text"'),
     "parameters of a call": ("docs/FROM_WIT_PARSER.md", "rename(&str, &IncludeName)", "rename(&str, &str)"),
-    "a file of a walk's step": ("docs/WALK.md", "`find_matches` gives", "`find_ids` gives"),
+    "a file of a walk's step": ("docs/WALK.md", "`find_matches` finds", "`find_ids` finds"),
     "a crate of a clause": ("docs/GUARANTEES.md", "`append`, `append_all`: `ok`, `valid`", "`append`, `merge_by_track`: `ok`, `valid`"),
     "a sum of DIFFERENCES": ("docs/DIFFERENCES.md", "54,903 are the same", "54,930 are the same"),
     "a figure that another document has": ("docs/GUARANTEES.md", "## What is trusted", "`bench/side.py`: 54,903\n\n## What is trusted"),
@@ -144,6 +144,10 @@ class Stale(unittest.TestCase):
         self.assertEqual(0, self.told(reading.stale_reading, text))
         self.assertEqual(5, self.told(reading.stale_reading, "word " * 800 + text))
         self.assertEqual(1, self.told(reading.stale_reading, text.replace("## License", "## Licence")))
+
+    def test_sentences(self):
+        self.assertEqual(0, self.told(reading.stale_sentences, f"{'word ' * reading.LONGEST}. Another one is there."))
+        self.assertEqual(1, self.told(reading.stale_sentences, f"{'word ' * (reading.LONGEST + 1)}. Another one is there."))
 
     def test_rows(self):
         for path in numbers.DIFFERENCES, numbers.ARCHITECTURE:

@@ -20,7 +20,7 @@ wit_merge_spec/specs/MismatchText wit_merge_spec/specs/Structure wit_semver/spec
 wit_elaboration/specs/AllElaborated wit_transform/specs/Transformed wit_queries/specs/Selection
 """.split()
 CASES = "crates/test_cases/stdin"
-TESTS = "crates/test_*/src/*.rt"
+TESTS = "crates/test_*/src/**/*.rt"
 LITERAL = r'"((?:[^"\\]|\\(?:.|\n))*)"'
 # The words of a parameter of which no comment tells them.
 WORDS = {"item_type": ["import", "export"]}
@@ -90,7 +90,7 @@ def refusals():
     """What the cases print of refusals, and the literals of tests."""
     for answer in re.findall(r"(?ms)^---$(.*?)(?=^=== |\Z)", read(CASES)):
         yield from re.findall(r"(?m)^refused \d+ (.*(?:\n  .*)*)", answer)
-    for path in glob.glob(TESTS):
+    for path in glob.glob(TESTS, recursive=True):
         for literal in re.findall(LITERAL, read(path)):
             yield unescaped(re.sub(r"\\\n\s*", "", literal))
 

@@ -4,7 +4,7 @@
     python3 check/ways.py [PROGRAM] [--json WITGRAPH_JSON] [--many N] [--documents N] [--first N]
 
 makes random scripts and has PROGRAM explain them, and the first ones as documents WITGRAPH_JSON, which are
-`witgraph_explained` and `witgraph_json` as `rt ci` leaves them in their folders `out`. The status is 1 where a refusal of
+`test_explanations` and `witgraph_json` as `rt ci` leaves them in their folders `out`. The status is 1 where a refusal of
 4, 6, 22 or 23 tells no way, or one that doesn't begin with what the refusal names (4), or doesn't lead back to it (6, 22),
 or to where it begins (23), or of which a step between interfaces is told by a line of a world; or where a document's
 refusals tell other ways. No clause says that there is a way.
@@ -21,7 +21,7 @@ import sys
 from script_documents import document_of
 
 TOP = os.path.dirname(os.path.dirname(os.path.abspath(__file__)))
-PROGRAM = f"{TOP}/crates/witgraph_explained/out/witgraph_explained"
+PROGRAM = f"{TOP}/crates/test_explanations/out/test_explanations"
 JSON = f"{TOP}/crates/witgraph_json/out/witgraph_json"
 NAMED = re.compile(r"`([^`]*)`")
 LABEL = re.compile(r"/[^@.]+\.")

@@ -4,11 +4,12 @@
     tools/limits.py             prints each count with its limit; status 1 where one is over it
     tools/limits.py --show N..  prints the places that the counts of these lines are of, from 1
 
-- A clause (`requires`, `ensures`) or a definition is wide where a line of it has over 100 columns. Public are the
-  clauses that users have (tools/offered.py), and the definitions under these.
+- A clause (`requires`, `ensures`), a view or another ghost member, or a definition is wide where a line of it has over
+  100 columns. Public are the clauses that users have (tools/offered.py), and the definitions under these.
 - A function stands twice where another one outside of `impl` blocks has the same letters, name and contract included,
   `pub` and comments left out. Crates of tests and of examples aren't asked.
 - What is misplaced in specs tools/definitions.py --misplaced tells.
+- A name has several definitions where several files at the top of specs define it. Examples aren't asked.
 """
 import pathlib
 import re
@@ -20,15 +21,17 @@ from offered import CLAUSE, CRATES, Offer
 
 COLUMNS = 100
 BEGIN = re.compile(r'(?:pub(?:\(crate\))? )?((?:const |unsafe |extern "C" )*fn \w+.*)')
+MEMBER = re.compile(r"\s+ghost \w+ = \{")
 ASIDE = re.compile(r"(test|examples)_")
 LIMITS = {
-    "wide clauses": 153,
-    "wide clauses that are public": 43,
-    "wide definitions": 411,
-    "wide definitions that are public": 233,
+    "wide clauses": 0,
+    "wide clauses that are public": 0,
+    "wide definitions": 9,
+    "wide definitions that are public": 5,
     "functions that stand twice": 2,
     "definitions that are believed, not at the top": 18,
     "definitions at the top, under no public contract": 16,
+    "names of several definitions at the top": 51,
 }
 
 
@@ -44,19 +47,32 @@ def place(path, number):
     return f"{path.relative_to(CRATES.parent)}:{number}"
 
 
+def clauses(path):
+    """Each clause and ghost member: the line where it begins, and its lines."""
+    begun, depth = None, 0
+    for number, line in enumerate(lines_of(path), 1):
+        if CLAUSE.match(line) or MEMBER.match(line):
+            begun, depth, text = number, 0, []
+        if begun:
+            text.append(line)
+            depth += line.count("{") - line.count("}")
+            if depth <= 0:
+                yield begun, text
+                begun = None
+
+
+def is_wide(lines):
+    return any(len(line) > COLUMNS for line in lines)
+
+
 def wide_clauses():
-    return [
-        place(path, number)
-        for path in sources()
-        for number, line in enumerate(lines_of(path), 1)
-        if CLAUSE.match(line) and len(line) > COLUMNS
-    ]
+    return [place(path, number) for path in sources() for number, lines in clauses(path) if is_wide(lines)]
 
 
 def wide_public_clauses():
-    offer = Offer()
-    lines = [(path, number, line) for path in offer.sources() for number, line, _ in offer.clauses(path)]
-    return [place(path, number) for path, number, line in lines if CLAUSE.match(line) and len(line) > COLUMNS]
+    offer, wide = Offer(), set(wide_clauses())
+    begun = [place(path, number) for path in offer.sources() for number, *_ in offer.clauses(path)]
+    return [it for it in begun if it in wide]
 
 
 def functions(path):
@@ -82,6 +98,16 @@ def functions_twice(crates=CRATES):
     return [it for places in found.values() for it in places[1:]]
 
 
+def names_of_several(specs):
+    """The places of each name that several files at the top of specs define."""
+    found = defaultdict(list)
+    for it in specs.all:
+        crate, *folders, _, _ = it.place.split("/")
+        if not folders and not ASIDE.match(crate):
+            found[it.name].append(it.place)
+    return [" ".join(places) for _, places in sorted(found.items()) if len(places) > 1]
+
+
 def counted():
     """The places of each count, in the order of LIMITS."""
     specs = definitions.Specs()
@@ -94,6 +120,7 @@ def counted():
     yield [place(*it) for it in functions_twice()]
     yield believed
     yield at_top
+    yield names_of_several(specs)
 
 
 def main(words):

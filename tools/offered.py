@@ -148,13 +148,19 @@ class Offer:
     def clauses(self, path):
         """The lines that begin a clause of a function that users have, or say what contracts see of a type that they
         have, with their numbers; and those that go on with one."""
-        head, is_open, own = "", False, self.names[crate_of(path)]
+        head, is_open, depth, own = "", False, 0, self.names[crate_of(path)]
         for number, line in enumerate(path.read_text(encoding="utf-8").splitlines(), 1):
-            if BLOCK.match(line):
+            if depth > 0:
+                depth += line.count("{") - line.count("}")
+                yield number, line, False
+            elif BLOCK.match(line):
                 head, is_open = line, False
             elif match := FUNCTION.match(line):
                 is_open = self.has(path, head, line, bool(match[1]), match[2])
-            elif is_open and CLAUSE.match(line) or GHOST.match(line) and own & set(re.findall(r"\w+", head)):
+            elif GHOST.match(line) and own & set(re.findall(r"\w+", head)):
+                depth = line.count("{") - line.count("}")
+                yield number, line, True
+            elif is_open and CLAUSE.match(line):
                 yield number, line, True
             elif line in ("{", "    {"):
                 is_open = False

@@ -98,7 +98,7 @@ class Turns(unittest.TestCase):
         self.assertEqual([3], [it for it in turns_of["wit_small"] if it])
         self.assertEqual([35, 35], [it for it in turns_of["wit_large"] if it])
         # with wit_small's 117 seconds as even as edits of 30 seconds can be, beside the turns of wit_large
-        self.assertEqual([2, 5, 5, 5, 5, 6, 6, 6], sorted(it for it in turns_of["wit_named"] if it))
+        self.assertEqual([1, 4, 5, 5, 5, 5, 5, 5, 5], sorted(it for it in turns_of["wit_named"] if it))
 
     def test_each_comes(self):
         status, out = self.run_tool("--odds")

@@ -141,6 +141,14 @@ class Cited(Crates):
         reached = definitions.Specs().behind(["b/B/made"])
         self.assertEqual({"b/B/made", "a/A/◌>>=◌", "a/A/told"}, reached)
 
+    def test_names_of_several(self):
+        self.addCleanup(setattr, definitions, "CRATES", definitions.CRATES)
+        definitions.CRATES = self.crates
+        for path in "a/specs/A", "b/specs/B", "c/specs/steps/C", "examples_d/specs/D":
+            self.write(f"{path}.antt", "abbrev pub told : ℕ\ntold = 1\n")
+        self.write("b/specs/More.antt", "abbrev pub alone : ℕ\nalone = 1\n")
+        self.assertEqual(["a/A/told b/B/told"], limits.names_of_several(definitions.Specs()))
+
 
 if __name__ == "__main__":
     unittest.main()

@@ -131,7 +131,7 @@ class Crates(unittest.TestCase):
         self.assertEqual(named, set(crates.PROGRAMS + crates.STORED))
 
     def test_carriage_returns_are_kept(self):
-        self.assertIn("\r\n", layout.stored_of("witgraph_explained", "stdin"))
+        self.assertIn("\r\n", layout.stored_of("test_explanations", "stdin"))
 
 
 class ParserNames(unittest.TestCase):

@@ -18,11 +18,11 @@ CRATES = ["wit_json_reading", "wit_json_graphs", "wit_json", "wit_json_commands"
 WRITERS = ["wit_json", "wit_json_commands"]
 STORED = "crates/witgraph_json/stdin", "crates/witgraph_json/stdout"
 # The definitions that read what a row calls by a word in capitals.
-THINGS = {"PACKAGE": "package_of", "WORLD": "world_of", "INTERFACE": "interface_of"}
+THINGS = {"PACKAGE": "read_package", "WORLD": "read_world", "INTERFACE": "read_interface"}
 # The members that some definitions always write for others.
 WRITTEN_BY = {"interface_member": ["interface"], "fault_members": ["clause", "place", "text"]}
 # The definitions, beside those of commands, of which the document has each word.
-SAID_WHOLE = "json_of_answer", "json_of_function_kind", "package_of", "resolve_of", "json_of_remap"
+SAID_WHOLE = "json_of_answer", "json_of_function_kind", "read_package", "read_resolve", "json_of_remap"
 # Members that are read of a graph and stand in no package.
 OF_GRAPHS = {"package"}
 # Where a line of a definition goes on, but for the choices of a word, of which each has a line.
@@ -44,7 +44,7 @@ def definitions():
 @functools.cache
 def lists_of_names():
     """The lists of members that have a name of their own."""
-    return {name: re.findall(r'codes "([^"]*)"', body) for _, name, body in definitions() if name.endswith("_names")}
+    return {name: re.findall(r'codes "([^"]*)"', body) for _, name, body in definitions() if name.endswith("_members")}
 
 
 @functools.cache
@@ -65,7 +65,7 @@ def read_shape(body):
     if not said:
         return None
     members = lists_of_names().get(said[1]) or re.findall(r'codes "([^"]*)"', said[1])
-    needed = set(re.findall(r'← required .*\(codes "([^"]*)"\) j', body))
+    needed = set(re.findall(r'← read_required .*\(codes "([^"]*)"\) j', body))
     return {it: it not in needed for it in members}
 
 
@@ -218,7 +218,7 @@ def stale_members(path, text):
             yield from wrong_members(cells[0], cells[1], shapes()[THINGS[cells[0]]])
     cells = [cells[0] for _, columns, cells in rows_of(text) if columns[0] == "Member"]
     if cells:
-        yield from wrong_members("RESOLVE", ", ".join(cells), shapes()["resolve_of"])
+        yield from wrong_members("RESOLVE", ", ".join(cells), shapes()["read_resolve"])
 
 
 def wrong_members(thing, cell, known):
@@ -244,7 +244,7 @@ def stale_strings(path, text):
 def wanted():
     """The words that the document has to have."""
     found = set()
-    words_of = r'(?:bytes_eq \w+|tagged|json_of_text|required \S+|optional \S+) \(codes "([a-z-]+)"\)'
+    words_of = r'(?:bytes_eq \w+|tagged|json_of_text|read_required \S+|read_optional \S+|optional \S+) \(codes "([a-z-]+)"\)'
     for crate, name, body in definitions():
         if crate == "wit_json_commands" or name in SAID_WHOLE:
             found.update(re.findall(words_of, body))
@@ -301,7 +301,8 @@ def stale_example(path, text):
 def stale_values(path, text):
     """Each other block is a value that an example proves."""
     if path == LAYOUT:
-        proved = re.findall(r'≡ codes "((?:[^"\\]|\\.)*)"', "".join(map(read, specs("examples_json_runs"))))
+        joined = re.sub(r'"\s+\+\+ codes "', "", "".join(map(read, specs("examples_json"))))
+        proved = re.findall(r'≡ codes\s+"((?:[^"\\]|\\.)*)"', joined)
         there = {it.replace('\\"', '"') for it in proved}
         for block in blocks(text, "json"):
             if not block.startswith(('{"commands"', '{"replies"')) and block.strip() not in there:

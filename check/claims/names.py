@@ -8,7 +8,7 @@ from claims.markdown import is_original, rows_of, spans, without_blocks, without
 from claims.repository import TOP, crates, edits, read, tracked
 from claims.rust import functions, types_of
 
-CASES, EXPLAINED, PROOFS = "crates/test_cases/stdin", "crates/witgraph_explained/stdin", "docs/PROOFS.md"
+CASES, EXPLAINED, PROOFS = "crates/test_cases/stdin", "crates/test_explanations/stdin", "docs/PROOFS.md"
 
 CODE = (".rt", ".antt", ".py", ".rs", ".c", ".h", ".sh", ".toml", ".txt", ".edit")
 COMMENTS = {".rt": r"//.*", ".rs": r"//.*", ".antt": r"--.*", ".edit": r"//.*", ".py": r"#.*"}

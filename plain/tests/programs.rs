@@ -50,11 +50,25 @@ fn what_is_no_script_ends_with_status_1() {
 }
 
 #[test]
-fn witgraph_json_takes_no_argument() {
-    let done = run(WITGRAPH_JSON, &["--help"], b"{\"commands\":[]}");
+fn witgraph_json_takes_two_options() {
+    for (words, status) in [(&["--help"][..], 0), (&["--version"], 0), (&["--help", "more"], 2), (&["other"], 2)] {
+        let done = run(WITGRAPH_JSON, words, b"{\"commands\":[]}");
+        let (told, silent) = if status == 0 { (done.stdout, done.stderr) } else { (done.stderr, done.stdout) };
+        let version = concat!("witgraph_json ", env!("CARGO_PKG_VERSION"), "\n");
+        let wanted = if words == ["--version"] { version } else { "usage: witgraph_json < DOCUMENT\n" };
+        assert!(told.starts_with(wanted.as_bytes()));
+        assert!(silent.is_empty());
+        assert_eq!(done.status.code(), Some(status));
+    }
+}
+
+/// What isn't UTF-8 gets no answer, and standard error says why.
+#[test]
+fn witgraph_json_says_why_it_writes_nothing() {
+    let done = run(WITGRAPH_JSON, &[], b"{\"commands\":[\"\xff\"]}");
     assert!(done.stdout.is_empty());
-    assert!(done.stderr.starts_with(b"usage: witgraph_json < DOCUMENT\n"));
-    assert_eq!(done.status.code(), Some(2));
+    assert_eq!(done.stderr, b"witgraph_json: the document isn't UTF-8\n");
+    assert_eq!(done.status.code(), Some(1));
 }
 
 /// A text in JSON with each kind of escape comes out with the shortest ones.

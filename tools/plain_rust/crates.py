@@ -19,14 +19,14 @@ LIBRARIES = (
 )
 PROGRAMS = ("witgraph", "witgraph_json", "witgraph_dot")
 # libraries whose `#[test]` functions `cargo test` runs
-TESTS = ("test_facades", "test_graph", "test_json", "test_resolve", "test_script", "test_shape")
+TESTS = ("test_facades", "test_json", "test_resolve")
 # programs that `cargo test` runs on what is stored beside them
 STORED = (
     "test_cases",
     "test_json_cases",
     "test_sweep",
-    "wit_uses",
-    "witgraph_explained",
+    "calls_to_copy",
+    "test_explanations",
 )
 
 

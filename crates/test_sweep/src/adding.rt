@@ -3,9 +3,9 @@ ghost use Rattle.std.specs.Prelude.{◌∷◌, IfOk, IsErr};
 ghost use Rattle.std.specs.List.{AllByRecursion};
 ghost use Rattle.wit_data.specs.Shape.{IsGroupShaped, IsShaped};
 
+use crate::marks::{call, copy_of, tell_made, tell_refusal};
 use crate::states::{incoming, state, tell_state};
 use std::alloc::Global;
-use test_sweep_layers::marks::{call, copy_of, tell_made, tell_refusal};
 use wit_resolve_graph::{
     Items, PackageId, ParseFault, Resolve, Shape, SourceFault, SourceMap, Span, Text, TryClone,
     UnresolvedPackage, UnresolvedPackageGroup, find_shape_fault,

@@ -2,10 +2,10 @@
 ghost use Rattle.std.specs.Prelude.{◌<◌, length};
 ghost use Rattle.wit_resolve_graph.specs.Step.{IsCommandShaped};
 
+use crate::marks::{call, copy_of, tell, tell_refusal};
+use crate::sources::one_file;
 use crate::states::{incoming, state, tell_state};
 use std::alloc::Global;
-use test_sweep_layers::marks::{call, copy_of, tell, tell_refusal};
-use test_sweep_layers::sources::one_file;
 use wit_resolve_graph::{
     Command, Remap, Reply, Resolve, ResolveResult, WorldId, WorldItem, WorldKey, run,
 };

@@ -14,31 +14,39 @@ ghost use Rattle.wit_data.specs.Shape.{IsGroupShaped};
 
 mod adding;
 mod changing;
+mod copies;
+mod errors;
+mod layers;
+mod marks;
 mod memoryless;
 mod questions;
+mod rows;
 mod scripts;
+mod sources;
 mod states;
+mod sums;
+mod values;
 
 use crate::adding::{add_group, push_groups};
 use crate::changing::{change, change_world, merge, run_command, run_merge};
+use crate::copies::{copy_graph, copy_group};
+use crate::errors::{ask_error, make_error, map_ids};
+use crate::layers::{link, transform, unite_graphs};
+use crate::marks::{call, tell};
 use crate::memoryless::{
     new_types, new_worlds, read_interface, read_package, read_type, read_values, read_whole,
 };
 use crate::questions::{
     ask_function, ask_interface, ask_package, ask_whole, ask_world, name_resource,
 };
+use crate::rows::{close, join_rows};
 use crate::scripts::{asked, before_last, built, commands_of, pushed};
+use crate::sources::make_sources;
 use crate::states::{base, incoming, incoming_groups};
+use crate::values::make_values;
 use std::alloc::Global;
 use std::io;
 use std::process::ExitCode;
-use test_sweep_layers::copies::{copy_graph, copy_group};
-use test_sweep_layers::errors::{ask_error, make_error, map_ids};
-use test_sweep_layers::layers::{link, transform, unite_graphs};
-use test_sweep_layers::marks::{call, tell};
-use test_sweep_layers::rows::{close, join_rows};
-use test_sweep_layers::sources::make_sources;
-use test_sweep_layers::values::make_values;
 use wit_resolve_graph::{
     Command, Items, Reply, Resolve, ResolveError, SourceFault, UnresolvedPackageGroup,
 };

@@ -1,8 +1,8 @@
 //! Calls that take no memory.
 ghost use Rattle.std.specs.Prelude.{◌<◌, length};
 
+use crate::marks::{bare, tell};
 use std::alloc::Global;
-use test_sweep_layers::marks::{bare, tell};
 use wit_resolve_graph::{
     AstItem, Docs, Function, FunctionKind, Interface, InterfaceId, Items, PackageId, Resolve,
     SourceMap, Span, Stability, Text, TrackRule, TryClone, Type_, TypeDef, TypeDefKind, TypeId,

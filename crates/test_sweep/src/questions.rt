@@ -1,8 +1,8 @@
 //! Questions of a `Resolve`, with the names of core wasm.
 ghost use Rattle.std.specs.Prelude.{◌<◌, length};
 
+use crate::marks::{bare, call, copied, tell};
 use std::alloc::Global;
-use test_sweep_layers::marks::{bare, call, copied, tell};
 use wit_resolve_graph::{
     Docs, Function, InterfaceId, LiftLowerAbi, ManglingAndAbi, PackageId, Resolve,
     ResourceIntrinsic, Span, Stability, StreamIntrinsic, Text, TypeId, WasmExport, WasmExportKind,

@@ -1,8 +1,11 @@
-//! What there is before and after a call of a `Resolve`: the number of its graph, the files, the features.
+//! What there is before and after a call: the number of a graph, the files, the features.
+use crate::marks::tell;
+use crate::sums::graph_sum;
 use std::fmt;
-use test_sweep_layers::marks::tell;
-use test_sweep_layers::sums::graph_sum;
+use wit_graph::Graph;
 use wit_resolve_graph::{Items, Resolve, ResolveResult, SourceMap, UnresolvedPackageGroup};
+
+// ---- of a `Resolve`
 
 /// Before calls that are each made on a copy of a `Resolve`.
 pub fn base(rt: &impl Print, resolve: &Resolve) -> Option<()> {
@@ -50,4 +53,28 @@ pub fn incoming_groups(
         incoming(rt, &dep.source_map)?;
     }
     Some(())
+}
+
+// ---- of a layer below
+
+/// After a call that changes a graph.
+pub fn tell_graph<T: fmt::Debug + Drop>(
+    rt: &impl Print,
+    answer: ResolveResult<T>,
+    graph: &Graph,
+) -> Option<()> {
+    tell(rt, answer)?;
+    graph_state(rt, graph)
+}
+
+pub fn graph_state(rt: &impl Print, graph: &Graph) -> Option<()> {
+    let graph = graph_sum(graph)?;
+    println!(rt; "state {graph}").ok()
+}
+
+/// The files of a map that is changed.
+pub fn map_state(rt: &impl Print, word: &str, map: &SourceMap) -> Option<()> {
+    let files = map.len();
+    let end = map.end();
+    println!(rt; "{word} map files {files} end {end}").ok()
 }

@@ -123,13 +123,25 @@ legacy_key g (Some k) = key_text g.packages g.interfaces k ++ codes "#"
 
 -- the module and the field of an import; nothing is said (two empty texts) of futures and streams under Standard32
 abbrev pub import_names : Graph → ManglingAndAbi → WasmImport → List ℕ × List ℕ
-import_names g Standard32 (imports.Func interface func) = (standard_module g (option_copied interface), func.now.name)
-import_names g Standard32 (imports.ResourceIntrinsic interface r ImportedDrop) = (standard_module g (option_copied interface), resource_name g.types r ++ codes "_drop")
-import_names g Standard32 (imports.ResourceIntrinsic interface r ExportedDrop) = (codes "cm32p2|_ex_" ++ standard_key g (option_copied interface), resource_name g.types r ++ codes "_drop")
-import_names g Standard32 (imports.ResourceIntrinsic interface r ExportedNew) = (codes "cm32p2|_ex_" ++ standard_key g (option_copied interface), resource_name g.types r ++ codes "_new")
-import_names g Standard32 (imports.ResourceIntrinsic interface r ExportedRep) = (codes "cm32p2|_ex_" ++ standard_key g (option_copied interface), resource_name g.types r ++ codes "_rep")
+import_names g Standard32 (imports.Func interface func) =
+    (standard_module g (option_copied interface), func.now.name)
+import_names g Standard32 (imports.ResourceIntrinsic interface r ImportedDrop) =
+    (standard_module g (option_copied interface), resource_name g.types r ++ codes "_drop")
+import_names g Standard32 (imports.ResourceIntrinsic interface r ExportedDrop) = (
+  codes "cm32p2|_ex_" ++ standard_key g (option_copied interface),
+  resource_name g.types r ++ codes "_drop",
+)
+import_names g Standard32 (imports.ResourceIntrinsic interface r ExportedNew) = (
+  codes "cm32p2|_ex_" ++ standard_key g (option_copied interface),
+  resource_name g.types r ++ codes "_new",
+)
+import_names g Standard32 (imports.ResourceIntrinsic interface r ExportedRep) = (
+  codes "cm32p2|_ex_" ++ standard_key g (option_copied interface),
+  resource_name g.types r ++ codes "_rep",
+)
 import_names g Standard32 _ = ([], [])
-import_names g (Legacy abi) (imports.Func interface func) = (legacy_module g (option_copied interface), import_prefix abi ++ func.now.name)
+import_names g (Legacy abi) (imports.Func interface func) =
+    (legacy_module g (option_copied interface), import_prefix abi ++ func.now.name)
 import_names g (Legacy abi) (imports.ResourceIntrinsic interface r intrinsic) = (
   exported_prefix (is_export_intrinsic intrinsic) ++ legacy_module g (option_copied interface),
   import_prefix abi ++ (resource_mark intrinsic ++ resource_name g.types r),
@@ -144,7 +156,9 @@ import_names g (Legacy abi) (imports.FutureIntrinsic interface func ty intrinsic
 )
 import_names g (Legacy abi) (imports.StreamIntrinsic interface func ty intrinsic exported async) = (
   exported_prefix exported ++ legacy_module g (option_copied interface),
-  async_prefix async ++ (codes "[stream-" ++ (stream_word intrinsic ++ (codes "-" ++ (future_index_text g.types func.now ty ++ (codes "]" ++ func.now.name))))),
+  async_prefix async
+      ++ (codes "[stream-" ++ (stream_word intrinsic ++ (codes "-"
+      ++ (future_index_text g.types func.now ty ++ (codes "]" ++ func.now.name))))),
 )
 
 -- ---- exports

@@ -92,7 +92,7 @@ fn is_of_function(
 ) -> ResolveResult<bool>
     requires { IsAcyclic (type_references graph.now.types) }
     ensures told { IfOk result (λ told. told ≡ is_of_function graph.now.types function.now ty) }
-    ensures err { IfErr result (λ e. e ≡ OutOfMemory) }
+    ensures memory { IfErr result (λ e. e ≡ OutOfMemory) }
 {
     let Some(ty) = ty else {
         return Ok(true);
@@ -113,7 +113,7 @@ pub fn can_name_import(
 ) -> ResolveResult<bool>
     requires { IsAcyclic (type_references graph.now.types) }
     ensures told { IfOk result (λ told. told ≡ can_name_import graph.now mangling import.now) }
-    ensures err { IfErr result (λ e. e ≡ OutOfMemory) }
+    ensures memory { IfErr result (λ e. e ≡ OutOfMemory) }
 {
     match import {
         WasmImport::Func { interface, .. } => Ok(interface_has_name(graph, interface)),
@@ -166,7 +166,7 @@ fn can_name_value(
         told
         ≡ can_name_value graph.now mangling (option_copied interface.now) function.now ty
         goes_on) }
-    ensures err { IfErr result (λ e. e ≡ OutOfMemory) }
+    ensures memory { IfErr result (λ e. e ≡ OutOfMemory) }
 {
     match mangling {
         ManglingAndAbi::Standard32 => Ok(false),

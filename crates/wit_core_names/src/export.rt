@@ -75,7 +75,7 @@ pub fn wasm_export_name(
     requires { can_name_export graph.now mangling export.now ≡ true }
     ensures name { IfOk result
         (λ name. string_bytes name ≡ export_name graph.now mangling export.now) }
-    ensures err { IfErr result (λ e. e ≡ OutOfMemory) }
+    ensures memory { IfErr result (λ e. e ≡ OutOfMemory) }
 {
     match mangling {
         ManglingAndAbi::Standard32 => standard_export(alloc, graph, export),

@@ -143,7 +143,7 @@ pub fn wasm_import_name(
     ensures names { IfOk result (λ names.
         (string_bytes names.0, string_bytes names.1)
         ≡ import_names graph.now mangling import.now) }
-    ensures err { IfErr result (λ e. e ≡ OutOfMemory) }
+    ensures memory { IfErr result (λ e. e ≡ OutOfMemory) }
 {
     match mangling {
         ManglingAndAbi::Standard32 => standard_import(alloc, graph, import),

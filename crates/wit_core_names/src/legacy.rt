@@ -25,7 +25,7 @@ fn legacy_module(
 ) -> ResolveResult<String>
     ensures text { IfOk result
         (λ text. string_bytes text ≡ legacy_module graph.now (option_copied interface.now)) }
-    ensures err { IfErr result (λ e. e ≡ OutOfMemory) }
+    ensures memory { IfErr result (λ e. e ≡ OutOfMemory) }
 {
     match interface {
         Some(key) => graph.name_world_key(alloc, key),
@@ -37,7 +37,7 @@ fn legacy_module(
 fn legacy_key(alloc: Global, graph: &Graph, interface: &Option<&WorldKey>) -> ResolveResult<String>
     ensures text { IfOk result
         (λ text. string_bytes text ≡ legacy_key graph.now (option_copied interface.now)) }
-    ensures err { IfErr result (λ e. e ≡ OutOfMemory) }
+    ensures memory { IfErr result (λ e. e ≡ OutOfMemory) }
 {
     match interface {
         Some(key) => {
@@ -59,7 +59,7 @@ pub(crate) fn legacy_import(
     ensures names { IfOk result (λ names.
         (string_bytes names.0, string_bytes names.1)
         ≡ import_names graph.now (Legacy abi) import.now) }
-    ensures err { IfErr result (λ e. e ≡ OutOfMemory) }
+    ensures memory { IfErr result (λ e. e ≡ OutOfMemory) }
 {
     match import {
         WasmImport::Func { interface, func } => {
@@ -127,7 +127,7 @@ fn value_field(
         ++ (45
         ∷ (future_index_text graph.now.types function.now ty
         ++ (93 ∷ function.now.name)))))))) }
-    ensures err { IfErr result (λ e. e ≡ OutOfMemory) }
+    ensures memory { IfErr result (λ e. e ≡ OutOfMemory) }
 {
     let index = future_index_text(alloc, graph, function, ty)?;
     let (lowered, name) = (async_prefix(async_), &function.name);
@@ -144,7 +144,7 @@ fn module_of(
     ensures text { IfOk result (λ text.
         string_bytes text
         ≡ exported_prefix exported ++ legacy_module graph.now (option_copied interface.now)) }
-    ensures err { IfErr result (λ e. e ≡ OutOfMemory) }
+    ensures memory { IfErr result (λ e. e ≡ OutOfMemory) }
 {
     let prefix = exported_prefix(exported);
     let module = legacy_module(alloc, graph, interface)?;
@@ -160,7 +160,7 @@ pub(crate) fn legacy_export(
 ) -> ResolveResult<String>
     ensures name { IfOk result
         (λ name. string_bytes name ≡ export_name graph.now (Legacy abi) export.now) }
-    ensures err { IfErr result (λ e. e ≡ OutOfMemory) }
+    ensures memory { IfErr result (λ e. e ≡ OutOfMemory) }
 {
     let prefix = export_prefix(abi);
     match export {

@@ -125,7 +125,7 @@ pub(crate) fn future_index_text(
     requires { IsAcyclic (type_references graph.now.types) }
     ensures text { IfOk result
         (λ text. string_bytes text ≡ future_index_text graph.now.types function.now ty) }
-    ensures err { IfErr result (λ e. e ≡ OutOfMemory) }
+    ensures memory { IfErr result (λ e. e ≡ OutOfMemory) }
 {
     let Some(ty) = ty else {
         return Ok(String::from_str(alloc, "unit")?);

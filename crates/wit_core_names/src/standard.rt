@@ -22,7 +22,7 @@ fn standard_key(
 ) -> ResolveResult<String>
     ensures text { IfOk result
         (λ text. string_bytes text ≡ standard_key graph.now (option_copied interface.now)) }
-    ensures err { IfErr result (λ e. e ≡ OutOfMemory) }
+    ensures memory { IfErr result (λ e. e ≡ OutOfMemory) }
 {
     match interface {
         Some(key) => name_canonicalized_world_key(alloc, graph, key),
@@ -38,7 +38,7 @@ fn standard_module(
 ) -> ResolveResult<String>
     ensures text { IfOk result
         (λ text. string_bytes text ≡ standard_module graph.now (option_copied interface.now)) }
-    ensures err { IfErr result (λ e. e ≡ OutOfMemory) }
+    ensures memory { IfErr result (λ e. e ≡ OutOfMemory) }
 {
     match interface {
         Some(key) => {
@@ -59,7 +59,7 @@ pub(crate) fn standard_import(
     ensures names { IfOk result (λ names.
         (string_bytes names.0, string_bytes names.1)
         ≡ import_names graph.now Standard32 import.now) }
-    ensures err { IfErr result (λ e. e ≡ OutOfMemory) }
+    ensures memory { IfErr result (λ e. e ≡ OutOfMemory) }
 {
     match import {
         WasmImport::Func { interface, func } => {
@@ -87,7 +87,7 @@ fn standard_resource(
         (string_bytes names.0, string_bytes names.1)
         ≡ import_names graph.now Standard32
         (imports.ResourceIntrinsic interface.now resource intrinsic)) }
-    ensures err { IfErr result (λ e. e ≡ OutOfMemory) }
+    ensures memory { IfErr result (λ e. e ≡ OutOfMemory) }
 {
     let name = resource_name(graph, resource);
     let field = match intrinsic {
@@ -113,7 +113,7 @@ pub(crate) fn standard_export(
     requires { can_name_export graph.now Standard32 export.now ≡ true }
     ensures name { IfOk result
         (λ name. string_bytes name ≡ export_name graph.now Standard32 export.now) }
-    ensures err { IfErr result (λ e. e ≡ OutOfMemory) }
+    ensures memory { IfErr result (λ e. e ≡ OutOfMemory) }
 {
     match export {
         WasmExport::Func {

@@ -24,16 +24,19 @@ entries_of exported world = if exported then world.exports else world.imports
 -- the key of an interface holds that interface, which has a name; a label holds an interface or the
 -- function of that name
 abbrev pub IsExport : List Interface → WorldKey → WorldItem → Type 0
-IsExport interfaces (key.Interface f) (item.Interface id stability docs span external_id) = (id ≡ f) × IsNamed interfaces f
+IsExport interfaces (key.Interface f) (item.Interface id stability docs span external_id) =
+    (id ≡ f) × IsNamed interfaces f
 IsExport interfaces (key.Interface f) (item.Function function) = ⊥
 IsExport interfaces (key.Interface f) (item.Type_ id span) = ⊥
-IsExport interfaces (key.Name name) (item.Interface id stability docs span external_id) = id < length interfaces
+IsExport interfaces (key.Name name) (item.Interface id stability docs span external_id) =
+    id < length interfaces
 IsExport interfaces (key.Name name) (item.Function function) = function.name ≡ name
 IsExport interfaces (key.Name name) (item.Type_ id span) = ⊥
 
 -- an import is as an export, or a type of world w under its name
 abbrev pub IsImport : List Interface → List TypeDef → ℕ → WorldKey → WorldItem → Type 0
-IsImport interfaces types w (key.Name name) (item.Type_ id span) = IsTypeOf types (owner.World w) name id
+IsImport interfaces types w (key.Name name) (item.Type_ id span) =
+    IsTypeOf types (owner.World w) name id
 IsImport interfaces types w other held = IsExport interfaces other held
 
 -- the function that an entry holds refers to types of world w alone
@@ -44,7 +47,8 @@ ItemUsesOwn types w (item.Type_ id span) = Unit {0}
 
 -- each import of a world may stand under its key
 abbrev pub ImportsAreAllowed : List Interface → List TypeDef → ℕ → World → Type 0
-ImportsAreAllowed interfaces types w world = Each (λ (e : Entry). IsImport interfaces types w e.0 e.1) world.imports
+ImportsAreAllowed interfaces types w world =
+    Each (λ (e : Entry). IsImport interfaces types w e.0 e.1) world.imports
 
 -- each export of a world may stand under its key
 abbrev pub ExportsAreAllowed : List Interface → World → Type 0
@@ -71,12 +75,17 @@ interfaces_of_entries entries = flat_map (λ (e : Entry). item_interface e.1) en
 
 -- the interfaces in all places of all worlds
 abbrev pub interfaces_in_worlds : List World → List ℕ
-interfaces_in_worlds worlds = flat_map (λ (world : World). interfaces_of_entries world.imports ++ interfaces_of_entries world.exports) worlds
+interfaces_in_worlds worlds =
+    flat_map (λ (world : World).
+    interfaces_of_entries world.imports ++ interfaces_of_entries world.exports) worlds
 
 -- the interface has no name
 abbrev pub is_unnamed : List Interface → ℕ → Bool
-is_unnamed interfaces f = option_map_or (λ (interface : Interface). not (is_some interface.name)) (slice_get interfaces f) false
+is_unnamed interfaces f =
+    option_map_or (λ (interface : Interface). not (is_some interface.name)) (slice_get interfaces f)
+    false
 
 -- no interface without a name stands in two places
 abbrev pub StandOnce : List Interface → List World → Type 0
-StandOnce interfaces worlds = IsDistinct nat_eq (filter (is_unnamed interfaces) (interfaces_in_worlds worlds))
+StandOnce interfaces worlds =
+    IsDistinct nat_eq (filter (is_unnamed interfaces) (interfaces_in_worlds worlds))

@@ -33,11 +33,15 @@ world_id (item.World id) = id ∷ []
 
 -- the interfaces that are named of other packages
 abbrev pub foreign_interfaces : ForeignItems → List ℕ
-foreign_interfaces deps = flat_map (λ (e : PackageName × List ForeignItem). flat_map (λ (named : ForeignItem). interface_id named.1.0) e.1) deps
+foreign_interfaces deps =
+    flat_map (λ (e : PackageName × List ForeignItem).
+    flat_map (λ (named : ForeignItem). interface_id named.1.0) e.1) deps
 
 -- the worlds that are named of other packages
 abbrev pub foreign_worlds : ForeignItems → List ℕ
-foreign_worlds deps = flat_map (λ (e : PackageName × List ForeignItem). flat_map (λ (named : ForeignItem). world_id named.1.0) e.1) deps
+foreign_worlds deps =
+    flat_map (λ (e : PackageName × List ForeignItem).
+    flat_map (λ (named : ForeignItem). world_id named.1.0) e.1) deps
 
 -- ids name the first things of a list of so many things, each once
 pub record AreFirst (ids : List ℕ) (count : ℕ) : Type 0 where
@@ -48,12 +52,17 @@ pub record AreFirst (ids : List ℕ) (count : ℕ) : Type 0 where
 -- the item is there under the name by which it is named, and bare: an interface has no functions, a world no entries and
 -- no includes
 abbrev pub IsNameOnly : List Interface → List World → List ℕ → AstItem → Type 0
-IsNameOnly interfaces worlds name (item.Interface id) = SomeAt interfaces id (λ (interface : Interface). (interface.name ≡ Some name) × (interface.functions ≡ []))
-IsNameOnly interfaces worlds name (item.World id) = SomeAt worlds id (λ (world : World). (world.name ≡ name) × (world.imports ≡ []) × (world.exports ≡ []) × (world.includes ≡ []))
+IsNameOnly interfaces worlds name (item.Interface id) =
+    SomeAt interfaces id
+    (λ (interface : Interface). (interface.name ≡ Some name) × (interface.functions ≡ []))
+IsNameOnly interfaces worlds name (item.World id) =
+    SomeAt worlds id (λ (world : World).
+    (world.name ≡ name) × (world.imports ≡ []) × (world.exports ≡ []) × (world.includes ≡ []))
 
 -- the item is there and bare, and some gate says under which it is named
 abbrev pub IsForeign : List Interface → List World → ForeignItem → Type 0
-IsForeign interfaces worlds named = IsNameOnly interfaces worlds named.0 named.1.0 × (named.1.1 ≢ [])
+IsForeign interfaces worlds named =
+    IsNameOnly interfaces worlds named.0 named.1.0 × (named.1.1 ≢ [])
 
 -- a type of a foreign interface, that is of one of the first `foreign` interfaces, has a name
 abbrev pub IsForeignType : ℕ → TypeDef → Type 0

@@ -74,15 +74,19 @@ handle_resource (handle.Borrow id) = id
 abbrev pub kind_parts : TypeDefKind → List KindPart
 kind_parts (kind.Record fields) = map (λ (f : Field). named_part f.name (Some f.ty) f.span) fields
 kind_parts kind.Resource = []
-kind_parts (kind.Handle h) = plain_part Argument (codes "handle") (Some (type.Id (handle_resource h))) ∷ []
+kind_parts (kind.Handle h) =
+    plain_part Argument (codes "handle") (Some (type.Id (handle_resource h))) ∷ []
 kind_parts (kind.Flags flags) = map (λ (f : Flag). named_part f.name None f.span) flags
-kind_parts (kind.Tuple types) = map (λ (e : ℕ × Type_). plain_part Value (decimal e.0) (Some e.1)) (enumerate_from 0 types)
+kind_parts (kind.Tuple types) =
+    map (λ (e : ℕ × Type_). plain_part Value (decimal e.0) (Some e.1)) (enumerate_from 0 types)
 kind_parts (kind.Variant cases) = map (λ (c : Case). named_part c.name c.ty c.span) cases
 kind_parts (kind.Enum cases) = map (λ (c : EnumCase). named_part c.name None c.span) cases
 kind_parts (kind.Option ty) = plain_part Value (codes "element") (Some ty) ∷ []
-kind_parts (kind.Result_ ok err) = plain_part Value (codes "ok") ok ∷ plain_part Value (codes "err") err ∷ []
+kind_parts (kind.Result_ ok err) =
+    plain_part Value (codes "ok") ok ∷ plain_part Value (codes "err") err ∷ []
 kind_parts (kind.List ty) = plain_part Value (codes "element") (Some ty) ∷ []
-kind_parts (kind.Map key value) = plain_part Value (codes "key") (Some key) ∷ plain_part Value (codes "value") (Some value) ∷ []
+kind_parts (kind.Map key value) =
+    plain_part Value (codes "key") (Some key) ∷ plain_part Value (codes "value") (Some value) ∷ []
 kind_parts (kind.FixedLengthList ty len) = plain_part Value (codes "element") (Some ty) ∷ []
 kind_parts (kind.Future ty) = plain_part Value (codes "element") ty ∷ []
 kind_parts (kind.Stream ty) = plain_part Value (codes "element") ty ∷ []
@@ -103,17 +107,26 @@ map_handle go (handle.Borrow t) = handle.Borrow (go t)
 
 -- the same kind, with the ids of its parts mapped by their roles and their spans moved
 abbrev pub map_kind : (PartRole → ℕ → ℕ) → (OptionalSpan → OptionalSpan) → TypeDefKind → TypeDefKind
-map_kind go move (kind.Record fields) = kind.Record (map (λ (f : Field). record f { ty = map_type (go Value) f.ty; span = move f.span }) fields)
+map_kind go move (kind.Record fields) =
+    kind.Record
+    (map (λ (f : Field). record f { ty = map_type (go Value) f.ty; span = move f.span }) fields)
 map_kind go move kind.Resource = kind.Resource
 map_kind go move (kind.Handle h) = kind.Handle (map_handle (go Argument) h)
-map_kind go move (kind.Flags flags) = kind.Flags (map (λ (f : Flag). record f { span = move f.span }) flags)
+map_kind go move (kind.Flags flags) =
+    kind.Flags (map (λ (f : Flag). record f { span = move f.span }) flags)
 map_kind go move (kind.Tuple types) = kind.Tuple (map (map_type (go Value)) types)
-map_kind go move (kind.Variant cases) = kind.Variant (map (λ (c : Case). record c { ty = option_map (map_type (go Value)) c.ty; span = move c.span }) cases)
-map_kind go move (kind.Enum cases) = kind.Enum (map (λ (c : EnumCase). record c { span = move c.span }) cases)
+map_kind go move (kind.Variant cases) =
+    kind.Variant (map
+    (λ (c : Case). record c { ty = option_map (map_type (go Value)) c.ty; span = move c.span })
+    cases)
+map_kind go move (kind.Enum cases) =
+    kind.Enum (map (λ (c : EnumCase). record c { span = move c.span }) cases)
 map_kind go move (kind.Option ty) = kind.Option (map_type (go Value) ty)
-map_kind go move (kind.Result_ ok err) = kind.Result_ (option_map (map_type (go Value)) ok) (option_map (map_type (go Value)) err)
+map_kind go move (kind.Result_ ok err) =
+    kind.Result_ (option_map (map_type (go Value)) ok) (option_map (map_type (go Value)) err)
 map_kind go move (kind.List ty) = kind.List (map_type (go Value) ty)
-map_kind go move (kind.Map key value) = kind.Map (map_type (go Value) key) (map_type (go Value) value)
+map_kind go move (kind.Map key value) =
+    kind.Map (map_type (go Value) key) (map_type (go Value) value)
 map_kind go move (kind.FixedLengthList ty len) = kind.FixedLengthList (map_type (go Value) ty) len
 map_kind go move (kind.Future ty) = kind.Future (option_map (map_type (go Value)) ty)
 map_kind go move (kind.Stream ty) = kind.Stream (option_map (map_type (go Value)) ty)
@@ -139,7 +152,8 @@ referred k = flat_map (λ (p : KindPart). named_option p.ty) (kind_parts k)
 
 -- the same of its parts in some roles
 abbrev pub referred_in : (PartRole → Bool) → TypeDefKind → List ℕ
-referred_in roles k = flat_map (λ (p : KindPart). if roles p.role then named_option p.ty else []) (kind_parts k)
+referred_in roles k =
+    flat_map (λ (p : KindPart). if roles p.role then named_option p.ty else []) (kind_parts k)
 
 -- which type refers to which, as adjacency lists: list i has what type i refers to
 abbrev pub type_references : List TypeDef → List (List ℕ)

@@ -17,20 +17,57 @@ use Rattle.wit_data.specs.declared.world.WorldItem.TheVariants as item
 
 -- a type of this name, of this kind, of this owner
 abbrev pub new_type : Option (List ℕ) → TypeDefKind → TypeOwner → TypeDef
-new_type name kind owner = record { name = name; kind = kind; owner = owner; docs = record { contents = None }; stability = Unknown; span = None; external_id = None }
+new_type name kind owner =
+    record {
+      name = name;
+      kind = kind;
+      owner = owner;
+      docs = record { contents = None };
+      stability = Unknown;
+      span = None;
+      external_id = None;
+    }
 
 -- a function of this name and of this kind, with these parameters and this result
 abbrev pub new_function : List ℕ → FunctionKind → List Param → Option Type_ → Function
 new_function name kind params result =
-    record { name = name; kind = kind; params = params; result_ = result; docs = record { contents = None }; stability = Unknown; span = None; external_id = None }
+    record {
+      name = name;
+      kind = kind;
+      params = params;
+      result_ = result;
+      docs = record { contents = None };
+      stability = Unknown;
+      span = None;
+      external_id = None;
+    }
 
 -- an interface of this name, without types and functions
 abbrev pub new_interface : Option (List ℕ) → Interface
-new_interface name = record { name = name; types = []; functions = []; docs = record { contents = None }; stability = Unknown; «package» = None; span = None }
+new_interface name =
+    record {
+      name = name;
+      types = [];
+      functions = [];
+      docs = record { contents = None };
+      stability = Unknown;
+      «package» = None;
+      span = None;
+    }
 
 -- a world of this name, without entries and includes
 abbrev pub new_world : List ℕ → World
-new_world name = record { name = name; imports = []; exports = []; docs = record { contents = None }; stability = Unknown; «package» = None; includes = []; span = None }
+new_world name =
+    record {
+      name = name;
+      imports = [];
+      exports = [];
+      docs = record { contents = None };
+      stability = Unknown;
+      «package» = None;
+      includes = [];
+      span = None;
+    }
 
 -- the entry of an interface
 abbrev pub new_interface_entry : ℕ → WorldItem

@@ -29,7 +29,8 @@ use Rattle.wit_data.specs.declared.world.WorldInclude.{WorldInclude}
 
 -- the names of the interfaces after the foreign ones
 abbrev pub interface_names : ℕ → List Interface → List (List ℕ)
-interface_names foreign interfaces = flat_map (λ (interface : Interface). option_to_list interface.name) (drop foreign interfaces)
+interface_names foreign interfaces =
+    flat_map (λ (interface : Interface). option_to_list interface.name) (drop foreign interfaces)
 
 -- the names of the worlds after the foreign ones
 abbrev pub world_names : ℕ → List World → List (List ℕ)
@@ -55,18 +56,28 @@ pub record HasForeign (p : UnresolvedPackage) : Type 0 where
   pub interfaces : AreFirst (foreign_interfaces p.foreign_deps) (length p.interfaces)
   pub worlds : AreFirst (foreign_worlds p.foreign_deps) (length p.worlds)
   -- each has the name under which it is named, holds no functions and no entries, and is named under some gate
-  pub bare : Each (λ (e : PackageName × List ForeignItem). Each (IsForeign p.interfaces p.worlds) e.1) p.foreign_deps
+  pub bare : Each
+      (λ (e : PackageName × List ForeignItem). Each (IsForeign p.interfaces p.worlds) e.1)
+      p.foreign_deps
 
 -- what the package knows of the types of other packages
 pub record HasUnknown (p : UnresolvedPackage) : Type 0 where
   -- the types of kind `Unknown` are the first ones, with one span each
-  pub first : (length p.unknown_type_spans ≤ length p.types) × EachAt (λ i (def : TypeDef). (def.kind ≡ kind.Unknown) ↔ (i < length p.unknown_type_spans)) p.types
+  pub first : (length p.unknown_type_spans ≤ length p.types)
+      × EachAt (λ i (def : TypeDef). (def.kind ≡ kind.Unknown) ↔ (i < length p.unknown_type_spans))
+      p.types
   -- they have names, and foreign interfaces own them
-  pub foreign : EachAt (λ i (def : TypeDef). i < length p.unknown_type_spans → IsForeignType (length (foreign_interfaces p.foreign_deps)) def) p.types
+  pub foreign : EachAt (λ i (def : TypeDef).
+      i < length p.unknown_type_spans
+      → IsForeignType (length (foreign_interfaces p.foreign_deps)) def) p.types
   -- a foreign interface lists no other types
-  pub alone : EachAt (λ i (interface : Interface). i < length (foreign_interfaces p.foreign_deps) → Each (λ (e : List ℕ × ℕ). e.1 < length p.unknown_type_spans) interface.types) p.interfaces
+  pub alone : EachAt (λ i (interface : Interface).
+      i < length (foreign_interfaces p.foreign_deps)
+      → Each (λ (e : List ℕ × ℕ). e.1 < length p.unknown_type_spans) interface.types)
+      p.interfaces
   -- what has to be a resource is of kind `Unknown`
-  pub required : Each (λ (r : ℕ × Option (ℕ × ℕ)). SomeAt p.types r.0 (λ (def : TypeDef). def.kind ≡ kind.Unknown)) p.required_resource_types
+  pub required : Each (λ (r : ℕ × Option (ℕ × ℕ)).
+      SomeAt p.types r.0 (λ (def : TypeDef). def.kind ≡ kind.Unknown)) p.required_resource_types
 
 -- what things are called
 pub record HasNames (p : UnresolvedPackage) : Type 0 where
@@ -78,13 +89,16 @@ pub record HasNames (p : UnresolvedPackage) : Type 0 where
   -- a version is one of SemVer 2.0.0
   pub version : HasValidVersion p.name
   -- the interfaces that aren't foreign have different names, and so have the worlds
-  pub interfaces_differ : IsDistinct bytes_eq (interface_names (length (foreign_interfaces p.foreign_deps)) p.interfaces)
-  pub worlds_differ : IsDistinct bytes_eq (world_names (length (foreign_worlds p.foreign_deps)) p.worlds)
+  pub interfaces_differ : IsDistinct bytes_eq
+      (interface_names (length (foreign_interfaces p.foreign_deps)) p.interfaces)
+  pub worlds_differ : IsDistinct bytes_eq
+      (world_names (length (foreign_worlds p.foreign_deps)) p.worlds)
 
 -- which types belong to which interface or world
 pub record HasUnresolvedOwners (p : UnresolvedPackage) : Type 0 where
   -- a type with an owner has a name and is listed by its owner under it, one without has none
-  pub listed : EachAt (λ i (def : TypeDef). IsListed p.interfaces p.worlds i def.name def.owner) p.types
+  pub listed : EachAt (λ i (def : TypeDef). IsListed p.interfaces p.worlds i def.name def.owner)
+      p.types
   -- an interface lists types of its own, each under its name, and each function stands under its name
   pub own_types : EachAt (ListsOwn p.types) p.interfaces
   pub functions : Each NamesFunctions p.interfaces
@@ -114,7 +128,8 @@ pub record HasUnresolvedWorlds (p : UnresolvedPackage) : Type 0 where
   -- an interface without a name stands in one place at most
   pub once : StandOnce p.interfaces p.worlds
   -- a world includes earlier worlds
-  pub includes : EachAt (λ w (world : World). Each (λ (i : WorldInclude). i.id < w) world.includes) p.worlds
+  pub includes : EachAt (λ w (world : World). Each (λ (i : WorldInclude). i.id < w) world.includes)
+      p.worlds
 
 -- nothing is said of the package that interfaces and worlds belong to
 pub record IsUnplaced (p : UnresolvedPackage) : Type 0 where

@@ -29,11 +29,15 @@ other_owner _ owner.None = None
 -- the interface that a type needs: of an alias, the interface that owns what it names, where that isn't the alias's own owner
 abbrev pub type_interface_dep : List TypeDef → ℕ → Option ℕ
 type_interface_dep types id =
-    option_and_then (λ (alias : TypeDef). option_and_then (λ target. option_and_then (λ (named : TypeDef). other_owner alias.owner named.owner) (slice_get types target)) (alias_target alias.kind)) (slice_get types id)
+    option_and_then (λ (alias : TypeDef).
+    option_and_then (λ target.
+    option_and_then (λ (named : TypeDef). other_owner alias.owner named.owner)
+    (slice_get types target)) (alias_target alias.kind)) (slice_get types id)
 
 -- the interfaces that an interface uses, in the order of its types, with repeats
 abbrev pub interface_uses : List TypeDef → Interface → List ℕ
-interface_uses types interface = filter_map (λ (e : List ℕ × ℕ). type_interface_dep types e.1) interface.types
+interface_uses types interface =
+    filter_map (λ (e : List ℕ × ℕ). type_interface_dep types e.1) interface.types
 
 -- list i: the interfaces that interface i uses
 abbrev pub uses_of : List TypeDef → List Interface → List (List ℕ)

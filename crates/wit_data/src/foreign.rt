@@ -28,7 +28,8 @@ fn push_interfaces(
     ids: &mut Items<usize>,
     named: &Names<(AstItem, Items<Stability>)>,
 ) -> Result<(), AllocError>
-    ensures { OnOk result (ids.new ≡ ids.old ++ flat_map (λ (e : ForeignItem). interface_id e.1.0) named.now) }
+    ensures { OnOk result
+        (ids.new ≡ ids.old ++ flat_map (λ (e : ForeignItem). interface_id e.1.0) named.now) }
 {
     for (_, (item, _)) in named.iter() {
         push_interface(ids, *item)?;
@@ -64,7 +65,8 @@ fn push_worlds(
     ids: &mut Items<usize>,
     named: &Names<(AstItem, Items<Stability>)>,
 ) -> Result<(), AllocError>
-    ensures { OnOk result (ids.new ≡ ids.old ++ flat_map (λ (e : ForeignItem). world_id e.1.0) named.now) }
+    ensures { OnOk result
+        (ids.new ≡ ids.old ++ flat_map (λ (e : ForeignItem). world_id e.1.0) named.now) }
 {
     for (_, (item, _)) in named.iter() {
         push_world(ids, *item)?;

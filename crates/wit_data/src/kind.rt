@@ -121,7 +121,8 @@ pub fn part_count(kind: &TypeDefKind) -> usize
 
 /// The type of a part, where there is such a part and it has one.
 pub fn part_type(kind: &TypeDefKind, index: usize) -> Option<Type_>
-    ensures { result ≡ option_and_then (λ (p : KindPart). p.ty) (slice_get (kind_parts kind.now) index) }
+    ensures { result
+        ≡ option_and_then (λ (p : KindPart). p.ty) (slice_get (kind_parts kind.now) index) }
 {
     match kind {
         TypeDefKind::Record { fields } => Some(fields.get(index)?.ty),
@@ -145,7 +146,8 @@ pub fn part_type(kind: &TypeDefKind, index: usize) -> Option<Type_>
 
 /// The name of a part, where there is such a part and it has a name of its own.
 pub fn part_name(kind: &TypeDefKind, index: usize) -> Option<&Text>
-    ensures { option_copied result ≡ option_and_then part_name (slice_get (kind_parts kind.now) index) }
+    ensures { option_copied result
+        ≡ option_and_then part_name (slice_get (kind_parts kind.now) index) }
 {
     match kind {
         TypeDefKind::Record { fields } => Some(&fields.get(index)?.name),
@@ -158,7 +160,8 @@ pub fn part_name(kind: &TypeDefKind, index: usize) -> Option<&Text>
 
 /// The span of a part, where there is such a part and it has a name of its own.
 pub fn part_span(kind: &TypeDefKind, index: usize) -> Option<Span>
-    ensures { result ≡ option_and_then (λ (p : KindPart). p.span) (slice_get (kind_parts kind.now) index) }
+    ensures { result
+        ≡ option_and_then (λ (p : KindPart). p.span) (slice_get (kind_parts kind.now) index) }
 {
     match kind {
         TypeDefKind::Record { fields } => Some(fields.get(index)?.span),
@@ -206,7 +209,8 @@ fn one_part(ty: Option<Type_>, index: usize) -> Option<Type_>
 
 /// The type of one of two parts.
 fn two_parts(first: Option<Type_>, second: Option<Type_>, index: usize) -> Option<Type_>
-    ensures { result ≡ option_and_then (λ (o : Option Type_). o) (slice_get (first ∷ second ∷ []) index) }
+    ensures { result
+        ≡ option_and_then (λ (o : Option Type_). o) (slice_get (first ∷ second ∷ []) index) }
 {
     match index {
         0 => first,
@@ -254,7 +258,8 @@ fn push_types(ids: &mut Items<TypeId>, types: &[Type_]) -> Result<(), AllocError
 }
 
 fn push_fields(ids: &mut Items<TypeId>, fields: &[Field]) -> Result<(), AllocError>
-    ensures { OnOk result (ids.new ≡ ids.old ++ flat_map (λ (f : Field). named_type f.ty) fields.now) }
+    ensures { OnOk result
+        (ids.new ≡ ids.old ++ flat_map (λ (f : Field). named_type f.ty) fields.now) }
 {
     for field in fields {
         push_type(ids, field.ty)?;
@@ -263,7 +268,8 @@ fn push_fields(ids: &mut Items<TypeId>, fields: &[Field]) -> Result<(), AllocErr
 }
 
 fn push_cases(ids: &mut Items<TypeId>, cases: &[Case]) -> Result<(), AllocError>
-    ensures { OnOk result (ids.new ≡ ids.old ++ flat_map (λ (c : Case). named_option c.ty) cases.now) }
+    ensures { OnOk result
+        (ids.new ≡ ids.old ++ flat_map (λ (c : Case). named_option c.ty) cases.now) }
 {
     for case in cases {
         push_option(ids, case.ty)?;

@@ -80,7 +80,8 @@ pub(crate) fn push_option(ids: &mut Items<TypeId>, ty: Option<Type_>) -> Result<
 }
 
 fn push_params(ids: &mut Items<TypeId>, params: &[Param]) -> Result<(), AllocError>
-    ensures { OnOk result (ids.new ≡ ids.old ++ flat_map (λ (p : Param). named_type p.ty) params.now) }
+    ensures { OnOk result
+        (ids.new ≡ ids.old ++ flat_map (λ (p : Param). named_type p.ty) params.now) }
 {
     for param in params {
         push_type(ids, param.ty)?;

@@ -41,7 +41,8 @@ module _ {X Y : Type 0} (R : X → Y → Type 0) where
 -- the first n places of the order have given their items, and the other items are in their slots
 pub record IsArranging {X : Type 0} (items : List X) (order : List ℕ) (n : ℕ) (slots : List (Option X)) (arranged : List X) : Type 0 where
   pub long : length slots ≡ length items
-  pub full : (j : ℕ) (x : X) → slice_get items j ≡ Some x → (Contains (take n order) j → ⊥) → slice_get slots j ≡ Some (Some x)
+  pub full : (j : ℕ) (x : X) → slice_get items j ≡ Some x → (Contains (take n order) j → ⊥)
+      → slice_get slots j ≡ Some (Some x)
   pub zip : AllZip (λ place (x : X). slice_get items place ≡ Some x) (take n order) arranged
 
 module _ {X : Type 0} (items : List X) (order : List ℕ) where

@@ -83,7 +83,9 @@ StepsTo uses i (g ∷ above) = Contains (direct uses i) g.node
 abbrev pub IsWay : List (List ℕ) → List Mark → List Frame → Type 0
 IsWay uses marks [] = Unit {0}
 IsWay uses marks (f ∷ above) =
-    ((k : ℕ) → k < f.next → (mark_of marks (get_or (direct uses f.node) k 0) ≡ Done) ⊎ BeginsAt above (get_or (direct uses f.node) k 0))
+    ((k : ℕ) → k < f.next
+    → (mark_of marks (get_or (direct uses f.node) k 0) ≡ Done)
+    ⊎ BeginsAt above (get_or (direct uses f.node) k 0))
     × StepsTo uses f.node above
     × IsWay uses marks above
 

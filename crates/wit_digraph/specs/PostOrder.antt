@@ -6,7 +6,8 @@ use Rattle.wit_digraph.specs.Relation.{direct}
 -- the post-orders of i's direct uses in order, then i, along paths of at most `members` members
 unfoldable pub post_order_within : List (List ℕ) → ℕ → ℕ → List ℕ
 post_order_within uses zero i = []
-post_order_within uses (suc members) i = flat_map (post_order_within uses members) (direct uses i) ++ i ∷ []
+post_order_within uses (suc members) i =
+    flat_map (post_order_within uses members) (direct uses i) ++ i ∷ []
 
 -- the post-orders of i's direct uses in order, then i: where uses are acyclic, no path has more members
 -- than there are nodes, so nothing is cut off (the law `PostOrdersUnfold` says so)
@@ -16,7 +17,8 @@ post_order uses i = post_order_within uses (length uses) i
 -- the members of a list that are not among those seen, each where it comes first
 abbrev pub fresh : List ℕ → List ℕ → List ℕ
 fresh seen [] = []
-fresh seen (x ∷ xs) = if list_any (nat_eq x) seen then fresh seen xs else x ∷ fresh (seen ++ x ∷ []) xs
+fresh seen (x ∷ xs) =
+    if list_any (nat_eq x) seen then fresh seen xs else x ∷ fresh (seen ++ x ∷ []) xs
 
 -- the first of each member
 abbrev pub first_of_each : List ℕ → List ℕ

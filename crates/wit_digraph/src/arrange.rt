@@ -15,7 +15,8 @@ pub fn in_order<T: Drop>(
 ) -> Result<Items<T>, AllocError>
     requires once { IsDistinct nat_eq order.now }
     requires in_range { All (λ place. place < length items) order.now }
-    ensures { IfOk result (λ arranged. AllZip (λ place x. slice_get items place ≡ Some x) order.now arranged) }
+    ensures { IfOk result
+        (λ arranged. AllZip (λ place x. slice_get items place ≡ Some x) order.now arranged) }
 {
     let mut slots = slots_of(alloc, items)?;
     let mut arranged = Items::new(alloc);

@@ -70,7 +70,8 @@ fn search(
     requires long { length marks.old ≡ length uses.now }
     requires settled { IsFinished uses.now marks.old }
     ensures some { IfOk result (λ found. IfSome found (λ c. IsOnCycle uses.now c.user c.used)) }
-    ensures none { IfOk result (λ found. IfNone found (Finishes uses.now marks.old marks.new root)) }
+    ensures none { IfOk result
+        (λ found. IfNone found (Finishes uses.now marks.old marks.new root)) }
 {
     if marks[root] == Mark::Done {
         return Ok(None);

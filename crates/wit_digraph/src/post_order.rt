@@ -103,8 +103,9 @@ impl Listing {
     pub fn push(&mut self, node: usize) -> Result<(), AllocError>
         requires in_range { node < self.old.nodes }
         requires new { Contains self.old.order node → ⊥ }
-        ensures ok { OnOk result (self.new ≡ record self.old { order = self.old.order ++ node ∷ [] }) }
-        ensures err { OnErr result (self.new ≡ self.old) }
+        ensures ok { OnOk result
+            (self.new ≡ record self.old { order = self.old.order ++ node ∷ [] }) }
+        ensures unchanged { OnErr result (self.new ≡ self.old) }
     {
         self.order.push(node)?;
         set_bit(&mut self.marks, node);
@@ -114,7 +115,7 @@ impl Listing {
     /// One node more, which isn't listed. Where there is no memory the listing is as before.
     pub fn add_node(&mut self) -> Result<(), AllocError>
         ensures ok { OnOk result (self.new ≡ record self.old { nodes = self.old.nodes + 1 }) }
-        ensures err { OnErr result (self.new ≡ self.old) }
+        ensures unchanged { OnErr result (self.new ≡ self.old) }
     {
         let Some(nodes) = self.nodes.checked_add(1) else {
             return Err(AllocError);
@@ -174,7 +175,9 @@ impl Listing {
         requires root { root < length uses.now }
         requires nodes { self.old.nodes ≡ length uses.now }
         requires uses_first { UsesFirst uses.now [] self.old.order }
-        ensures ok { OnOk result (self.new ≡ record self.old { order = self.old.order ++ fresh self.old.order (post_order uses.now root) }) }
+        ensures ok { OnOk result (self.new
+            ≡ record self.old
+            { order = self.old.order ++ fresh self.old.order (post_order uses.now root) }) }
         ensures nodes { self.new.nodes ≡ self.old.nodes }
         ensures uses_first { UsesFirst uses.now [] self.new.order }
     {
@@ -222,7 +225,8 @@ pub fn post_order_of_roots(
 ) -> Result<Items<usize>, AllocError>
     requires acyclic { IsAcyclic uses.now }
     requires roots { All (λ i. i < length uses.now) roots.now }
-    ensures { IfOk result (λ order. order ≡ first_of_each (flat_map (post_order uses.now) roots.now)) }
+    ensures { IfOk result
+        (λ order. order ≡ first_of_each (flat_map (post_order uses.now) roots.now)) }
 {
     let mut listing = Listing::new(alloc, uses.len())?;
     for root in roots {

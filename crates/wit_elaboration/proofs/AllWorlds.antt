@@ -91,7 +91,8 @@ module _ {X : Type 0} where
 
 module _ (g : Graph) where
   -- the last of the lists that are left are those of the world behind the others
-  pub record IsNext (left : List (Option Lists)) (lists : Option Lists) (worlds : List World) : Type 0 where
+  pub record IsNext (left : List (Option Lists)) (lists : Option Lists) (worlds : List World) : Type
+      0 where
     pub world : World
     pub at : slice_get worlds (length left) ≡ Some world
     pub placed : IsPlacing g left (slice_set worlds (length left) (with_lists world lists))

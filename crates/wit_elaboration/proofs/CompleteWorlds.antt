@@ -105,7 +105,8 @@ module _ (types : List TypeDef) (uses : List (List ℕ)) where
     pub order_is : order ≡ interfaces_of_keys seen
     pub new : AllNew seen left
     pub sound : AreSound types (length uses) left
-    pub whole : DependenciesFirst types uses order left → Each IsSettled left → DependenciesFirst types uses [] all × Each IsSettled all
+    pub whole : DependenciesFirst types uses order left → Each IsSettled left
+        → DependenciesFirst types uses [] all × Each IsSettled all
 
   pub stand-start : (order : List ℕ) (left all : List Entry) → order ≡ [] → left ≡ all → AreSound types (length uses) all → IsDistinct eq-value.it (keys_of all) → StandOn order left all
   stand-start order left all none is sound distinct =

@@ -11,7 +11,8 @@ use Rattle.wit_digraph.specs.Relation.{direct}
 -- how many uses the nodes from `at` on have that are done
 abbrev pub counted : List (List ℕ) → ℕ → List ℕ → ℕ
 counted [] at done = 0
-counted (row ∷ rows) at done = (if list_any (nat_eq at) done then length row else 0) + counted rows (suc at) done
+counted (row ∷ rows) at done =
+    (if list_any (nat_eq at) done then length row else 0) + counted rows (suc at) done
 
 pub counted-none : (rows : List (List ℕ)) (at : ℕ) → counted rows at [] ≡ 0
 counted-none [] at = refl

@@ -82,7 +82,9 @@ module _ (types wider : List TypeDef) where
           subst (λ (z : Entry). role_of types z.1 ≡ role_of wider z.1) dep.1.1 refl
 
       abbrev before : List Entry
-      before = flat_map (import_with_needs types uses) (by_class types imports) ++ flat_map (export_needs uses outside) exports
+      before =
+          flat_map (import_with_needs types uses) (by_class types imports)
+          ++ flat_map (export_needs uses outside) exports
 
       before_roles : SameRoles types wider (fresh_entries [] before)
       before_roles f has =

@@ -10,7 +10,8 @@ use Rattle.wit_elaboration.specs.Imported.{HasTransitiveConflict}
 
 -- the interface of this entry may need what is exported
 abbrev pub EntryMayNeed : List (List ℕ) → List (List ℕ) → List ℕ → List ℕ → Entry → Type 0
-EntryMayNeed uses rows exported columns e = (i : ℕ) × Contains (item_interface e.1) i × MayNeed uses rows exported columns i
+EntryMayNeed uses rows exported columns e =
+    (i : ℕ) × Contains (item_interface e.1) i × MayNeed uses rows exported columns i
 
 module _ (uses rows : List (List ℕ)) (exported columns : List ℕ) (e : Entry) where
   pub need_passed : (i : ℕ) → i ∷ [] ≡ item_interface e.1 → (MayNeed uses rows exported columns i → ⊥) → EntryMayNeed uses rows exported columns e → ⊥

@@ -22,7 +22,9 @@ module _ (uses : List (List ℕ)) (acyclic : IsAcyclic uses) (picks : ℕ → Bo
   -- what each entry needs, where the test picks it, is among the keys seen, or stands before the entry
   abbrev pub NeedsFirst : List WorldKey → List Entry → Type 0
   NeedsFirst seen [] = Unit {0}
-  NeedsFirst seen (e ∷ es) = ((j : ℕ) → Contains (filter picks (interface_needs uses e)) j → Contains seen (Interface j)) × NeedsFirst (seen ++ e.0 ∷ []) es
+  NeedsFirst seen (e ∷ es) =
+      ((j : ℕ) → Contains (filter picks (interface_needs uses e)) j → Contains seen (Interface j))
+      × NeedsFirst (seen ++ e.0 ∷ []) es
 
   NeedsFirst-append : (xs ys : List Entry) (seen : List WorldKey) → NeedsFirst seen xs → NeedsFirst (seen ++ keys_of xs) ys → NeedsFirst seen (xs ++ ys)
   NeedsFirst-append [] ys seen first then = rw append-nil at then

@@ -47,7 +47,8 @@ column_own i below = mod-eq_of_lt below
 -- i's column, and those of what is reached from the nodes done
 pub record HasReached (uses : List (List ℕ)) (row : List ℕ) (i : ℕ) (done : List ℕ) : Type 0 where
   pub width : length row ≡ 16
-  pub exact : (c : ℕ) → HasBit row c ↔ ((column i ≡ c) ⊎ ((u : ℕ) × Contains done u × ReachesColumn uses u c))
+  pub exact : (c : ℕ)
+      → HasBit row c ↔ ((column i ≡ c) ⊎ ((u : ℕ) × Contains done u × ReachesColumn uses u c))
 
 pub HasReached-start : (uses : List (List ℕ)) (row : List ℕ) (i : ℕ) → length row ≡ 16 → HasBit row (column i) → ((k : ℕ) → k ≢ column i → bit_of row k ≡ bit_of (replicate 16 0) k) →
     HasReached uses row i []

@@ -57,8 +57,10 @@ module _ (types : List TypeDef) where
   pub record InOrder (interfaces : ℕ) (imports exports : List Entry) : Type 0 where
     pub own_imports : AreOwn types imports
     pub own_exports : AreOwn types exports
-    pub imports_in_range : (e : Entry) → Contains imports e → IsRoleInRange interfaces (role_of types e.1)
-    pub exports_in_range : (e : Entry) → Contains exports e → IsRoleInRange interfaces (role_of types e.1)
+    pub imports_in_range : (e : Entry) → Contains imports e
+        → IsRoleInRange interfaces (role_of types e.1)
+    pub exports_in_range : (e : Entry) → Contains exports e
+        → IsRoleInRange interfaces (role_of types e.1)
 
   own_from : (es : List Entry) → AllByRecursion (λ (e : Entry). IsUnderOwnKey e.0 e.1) es → AreOwn types es
   own_from es all e i has is = role_from_instance e.1 i (subst (λ k. IsUnderOwnKey k e.1) is (each_member (λ (f : Entry). IsUnderOwnKey f.0 f.1) es e all has))

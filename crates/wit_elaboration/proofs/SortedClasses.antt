@@ -10,7 +10,8 @@ module _ (types : List TypeDef) where
   -- the entries go on after one of this class
   abbrev pub Rises : ℕ → List Entry → Type 0
   Rises c [] = Unit {0}
-  Rises c (e ∷ es) = (c ≤ elaboration_class (role_of types e.1)) × Rises (elaboration_class (role_of types e.1)) es
+  Rises c (e ∷ es) =
+      (c ≤ elaboration_class (role_of types e.1)) × Rises (elaboration_class (role_of types e.1)) es
 
   -- where the entries that are left go on, all do
   pub record RisesOn (c : ℕ) (left all : List Entry) : Type 0 where

@@ -17,16 +17,21 @@ graph_uses g = uses_of g.types g.interfaces
 
 -- the keys and ids of the world at a place are in order
 abbrev pub HasSoundEntriesAt : Graph → ℕ → Type 0
-HasSoundEntriesAt g id = ForSome (slice_get g.worlds id) (λ (world : World). HasSoundEntries g.types (length g.interfaces) world.imports world.exports)
+HasSoundEntriesAt g id =
+    ForSome (slice_get g.worlds id)
+    (λ (world : World). HasSoundEntries g.types (length g.interfaces) world.imports world.exports)
 
 -- the exports of the world at a place are in conflict
 abbrev pub HasConflictAt : Graph → ℕ → Type 0
-HasConflictAt g id = (world : World) × (slice_get g.worlds id ≡ Some world) × HasTransitiveConflict (graph_uses g) world.exports
+HasConflictAt g id =
+    (world : World) × (slice_get g.worlds id ≡ Some world)
+    × HasTransitiveConflict (graph_uses g) world.exports
 
 -- the world at a place is elaborated, and all else is as it was
 abbrev pub ElaboratesWorld : Graph → ℕ → Graph → Type 0
 ElaboratesWorld old id new =
-    (before : World) × (after : World) × (slice_get old.worlds id ≡ Some before) × Elaborated old.types (graph_uses old) before after
+    (before : World) × (after : World) × (slice_get old.worlds id ≡ Some before)
+    × Elaborated old.types (graph_uses old) before after
     × (new ≡ record old { worlds = slice_set old.worlds id after })
 
 -- the exports of a world are in conflict, and the error has its span and the name of the first export that leads there
@@ -38,7 +43,8 @@ IsConflictError g world error =
 
 -- the exports of world id are in conflict, and the error says so
 abbrev pub IsElaborationError : Graph → ℕ → ResolveErrorKind → Type 0
-IsElaborationError g id error = (world : World) × (slice_get g.worlds id ≡ Some world) × IsConflictError g world error
+IsElaborationError g id error =
+    (world : World) × (slice_get g.worlds id ≡ Some world) × IsConflictError g world error
 
 -- a world can be elaborated: it is there, its keys and ids are in order, and uses are acyclic
 pub record CanElaborate (g : Graph) (id : ℕ) : Type 0 where

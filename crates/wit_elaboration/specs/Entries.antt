@@ -28,7 +28,9 @@ keyed_interfaces entries = flat_map (λ (e : Entry). key_interface e.0) entries
 -- the entries whose keys are not among those seen, of each key the first
 abbrev pub fresh_entries : List WorldKey → List Entry → List Entry
 fresh_entries seen [] = []
-fresh_entries seen (e ∷ es) = if list_any (same_key e.0) seen then fresh_entries seen es else e ∷ fresh_entries (seen ++ e.0 ∷ []) es
+fresh_entries seen (e ∷ es) =
+    if list_any (same_key e.0) seen then fresh_entries seen es
+    else e ∷ fresh_entries (seen ++ e.0 ∷ []) es
 
 -- ---- items
 
@@ -42,8 +44,10 @@ is_instance (item.Type_ id span) = false
 -- world defines it
 abbrev pub role_of : List TypeDef → WorldItem → Role
 role_of types (item.Interface i stability docs span external_id) = Instance i
-role_of types (item.Function function) = option_map_or (λ resource. ResourceFunction) (resource_of function.kind) FreeFunction
-role_of types (item.Type_ id span) = option_map_or TypeUse (type_interface_dep types id) TypeDefinition
+role_of types (item.Function function) =
+    option_map_or (λ resource. ResourceFunction) (resource_of function.kind) FreeFunction
+role_of types (item.Type_ id span) =
+    option_map_or TypeUse (type_interface_dep types id) TypeDefinition
 
 -- ---- classes: interfaces, type uses, type definitions, free functions, functions of resources
 -- Source: the order in which `elaborate_world` of wit-parser 0.263.0 sorts imports.
@@ -57,4 +61,7 @@ elaboration_class ResourceFunction = 4
 
 -- the entries sorted by class, those of one class in their order
 abbrev pub by_class : List TypeDef → List Entry → List Entry
-by_class types entries = flat_map (λ class. filter (λ (e : Entry). nat_eq (elaboration_class (role_of types e.1)) class) entries) (0 ∷ 1 ∷ 2 ∷ 3 ∷ 4 ∷ [])
+by_class types entries =
+    flat_map (λ class.
+    filter (λ (e : Entry). nat_eq (elaboration_class (role_of types e.1)) class) entries)
+    (0 ∷ 1 ∷ 2 ∷ 3 ∷ 4 ∷ [])

@@ -32,21 +32,30 @@ is_exported exports i = list_any (nat_eq i) (keyed_interfaces exports)
 
 -- as B: d is no exported key, and reaches one
 abbrev pub IsBetween : List (List ℕ) → List Entry → ℕ → Type 0
-IsBetween uses exports d = (Contains (keyed_interfaces exports) d → ⊥) × (a : ℕ) × Reaches uses d a × Contains (keyed_interfaces exports) a
+IsBetween uses exports d =
+    (Contains (keyed_interfaces exports) d → ⊥) × (a : ℕ) × Reaches uses d a
+    × Contains (keyed_interfaces exports) a
 
 -- some exported interface uses directly one that is between
 abbrev pub HasTransitiveConflict : List (List ℕ) → List Entry → Type 0
-HasTransitiveConflict uses exports = (c : ℕ) × (b : ℕ) × Contains (interfaces_of_entries exports) c × Contains (direct uses c) b × IsBetween uses exports b
+HasTransitiveConflict uses exports =
+    (c : ℕ) × (b : ℕ) × Contains (interfaces_of_entries exports) c × Contains (direct uses c) b
+    × IsBetween uses exports b
 
 -- the interface of this entry leads to a conflict: in one step or more it reaches one that is between
 abbrev pub IsEntryInConflict : List (List ℕ) → List Entry → Entry → Type 0
 IsEntryInConflict uses exports e =
-    (i : ℕ) × Contains (item_interface e.1) i × ((j : ℕ) × (b : ℕ) × Contains (direct uses i) j × Reaches uses j b × IsBetween uses exports b)
+    (i : ℕ) × Contains (item_interface e.1) i
+    × ((j : ℕ) × (b : ℕ) × Contains (direct uses i) j × Reaches uses j b
+    × IsBetween uses exports b)
 
 -- the refused key is that of the first export that leads to the conflict
 abbrev pub IsRefusedKey : List (List ℕ) → List Entry → WorldKey → Type 0
-IsRefusedKey uses exports k = (e : Entry) × First (IsEntryInConflict uses exports) exports e × (k ≡ e.0)
+IsRefusedKey uses exports k =
+    (e : Entry) × First (IsEntryInConflict uses exports) exports e × (k ≡ e.0)
 
 -- the refused name: the key as it is named
-abbrev pub IsRefusedName : List Package → List Interface → List (List ℕ) → List Entry → List ℕ → Type 0
-IsRefusedName packages interfaces uses exports name = (k : WorldKey) × IsRefusedKey uses exports k × (name ≡ key_text packages interfaces k)
+abbrev pub IsRefusedName : List Package → List Interface → List (List ℕ) → List Entry → List ℕ
+    → Type 0
+IsRefusedName packages interfaces uses exports name =
+    (k : WorldKey) × IsRefusedKey uses exports k × (name ≡ key_text packages interfaces k)

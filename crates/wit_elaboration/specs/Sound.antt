@@ -21,9 +21,11 @@ IsRoleInRange interfaces _ = Unit {0}
 -- so it is of each entry
 pub record AreSound (types : List TypeDef) (interfaces : ℕ) (entries : List Entry) : Type 0 where
   pub own_keys : AllByRecursion (λ (e : Entry). IsUnderOwnKey e.0 e.1) entries
-  pub in_range : AllByRecursion (λ (e : Entry). IsRoleInRange interfaces (role_of types e.1)) entries
+  pub in_range : AllByRecursion (λ (e : Entry). IsRoleInRange interfaces (role_of types e.1))
+      entries
 
 -- and of both lists of a world
-pub record HasSoundEntries (types : List TypeDef) (interfaces : ℕ) (imports exports : List Entry) : Type 0 where
+pub record HasSoundEntries (types : List TypeDef) (interfaces : ℕ)
+    (imports exports : List Entry) : Type 0 where
   pub of_imports : AreSound types interfaces imports
   pub of_exports : AreSound types interfaces exports

@@ -28,10 +28,14 @@ use wit_values::Items;
 /// Source: `merge` and `merge_world_imports_based_on_semver` of wit-parser 0.263.0.
 pub fn elaborate_all(alloc: Global, graph: &mut Graph) -> ResolveResult<()>
     requires acyclic { IsAcyclic (graph_uses graph.old) }
-    requires listed { Each (λ (world : World). HasSoundEntries graph.old.types (length graph.old.interfaces) world.imports world.exports) graph.old.worlds }
+    requires listed { Each (λ (world : World).
+        HasSoundEntries graph.old.types (length graph.old.interfaces) world.imports
+        world.exports) graph.old.worlds }
     ensures ok { OnOk result (graph.new ≡ all_elaborated graph.old) }
-    ensures no_conflict { OnOk result (Each (λ (world : World). HasTransitiveConflict (graph_uses graph.old) world.exports → ⊥) graph.old.worlds) }
-    ensures err { OnErr result (graph.new ≡ graph.old) }
+    ensures no_conflict { OnOk result
+        (Each (λ (world : World). HasTransitiveConflict (graph_uses graph.old) world.exports → ⊥)
+        graph.old.worlds) }
+    ensures unchanged { OnErr result (graph.new ≡ graph.old) }
     ensures cause { IfErr result (λ e. (e ≡ OutOfMemory) ⊎ IsRefusedWorld graph.old e) }
 {
     let lists = all_lists(alloc, graph)?;
@@ -42,9 +46,13 @@ pub fn elaborate_all(alloc: Global, graph: &mut Graph) -> ResolveResult<()>
 /// The elaborated lists of all worlds, in their order, but of those that keep their own.
 fn all_lists(alloc: Global, graph: &Graph) -> ResolveResult<Items<Option<Lists>>>
     requires acyclic { IsAcyclic (graph_uses graph.now) }
-    requires listed { Each (λ (world : World). HasSoundEntries graph.now.types (length graph.now.interfaces) world.imports world.exports) graph.now.worlds }
+    requires listed { Each (λ (world : World).
+        HasSoundEntries graph.now.types (length graph.now.interfaces) world.imports
+        world.exports) graph.now.worlds }
     ensures lists { IfOk result (AreListsOf graph.now graph.now.worlds) }
-    ensures no_conflict { OnOk result (Each (λ (world : World). HasTransitiveConflict (graph_uses graph.now) world.exports → ⊥) graph.now.worlds) }
+    ensures no_conflict { OnOk result
+        (Each (λ (world : World). HasTransitiveConflict (graph_uses graph.now) world.exports → ⊥)
+        graph.now.worlds) }
     ensures cause { IfErr result (λ e. (e ≡ OutOfMemory) ⊎ IsRefusedWorld graph.now e) }
 {
     let closure = Closure::of(alloc, graph)?;
@@ -67,9 +75,12 @@ fn new_lists(
 ) -> ResolveResult<Option<Lists>>
     requires uses { elaborator.old ≡ graph_uses graph.now }
     requires acyclic { IsAcyclic (graph_uses graph.now) }
-    requires listed { HasSoundEntries graph.now.types (length graph.now.interfaces) world.now.imports world.now.exports }
-    ensures lists { IfOk result (λ lists. with_lists world.now lists ≡ elaborated_world graph.now world.now) }
-    ensures no_conflict { OnOk result (HasTransitiveConflict (graph_uses graph.now) world.now.exports → ⊥) }
+    requires listed { HasSoundEntries graph.now.types (length graph.now.interfaces)
+        world.now.imports world.now.exports }
+    ensures lists { IfOk result
+        (λ lists. with_lists world.now lists ≡ elaborated_world graph.now world.now) }
+    ensures no_conflict { OnOk result
+        (HasTransitiveConflict (graph_uses graph.now) world.now.exports → ⊥) }
     ensures cause { IfErr result (λ e. (e ≡ OutOfMemory) ⊎ IsConflictError graph.now world.now e) }
     ensures same { elaborator.new ≡ elaborator.old }
 {

@@ -37,7 +37,7 @@ impl Closure {
     pub fn of(alloc: Global, graph: &Graph) -> ResolveResult<Closure>
         requires { IsAcyclic (graph_uses graph.now) }
         ensures ok { IfOk result (λ closure. closure ≡ graph_uses graph.now) }
-        ensures err { IfErr result (λ e. e ≡ OutOfMemory) }
+        ensures memory { IfErr result (λ e. e ≡ OutOfMemory) }
     {
         let uses = uses_of(alloc, graph.types.as_slice(), graph.interfaces.as_slice())?;
         let rows = ClosureRows::of(alloc, uses.as_slice())?;

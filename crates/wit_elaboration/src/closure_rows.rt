@@ -212,7 +212,8 @@ impl ClosureRows {
         requires node { node < length uses.now }
         requires nodes { exported.now.nodes ≡ length uses.now }
         requires wide { length columns.now ≡ 16 }
-        ensures { IsTrue result ↔ MayNeed uses.now self.now.rows exported.now.order columns.now node }
+        ensures { IsTrue result
+            ↔ MayNeed uses.now self.now.rows exported.now.order columns.now node }
     {
         for used in direct_uses(uses, node) {
             if self.leads_outside(uses, *used, exported, columns) {
@@ -222,7 +223,7 @@ impl ClosureRows {
         false
     }
 
-    /// Whether an interface isn't exported and its row has one of these columns.
+    /// Whether an interface isn't exported and its row has one of these columns. The contract alone names `uses`.
     fn leads_outside(
         &self,
         uses: &[Items<usize>],
@@ -234,7 +235,9 @@ impl ClosureRows {
         requires node { node < length uses.now }
         requires nodes { exported.now.nodes ≡ length uses.now }
         requires wide { length columns.now ≡ 16 }
-        ensures { IsTrue result ↔ ((Contains exported.now.order node → ⊥) × HaveCommonBit (direct self.now.rows node) columns.now) }
+        ensures { IsTrue result
+            ↔ ((Contains exported.now.order node → ⊥)
+            × HaveCommonBit (direct self.now.rows node) columns.now) }
     {
         !exported.has(node) && meets(row_at(self.rows.as_slice(), node), columns)
     }

@@ -38,8 +38,13 @@ pub(crate) fn are_complete(
     requires listed { AreSound types.now (length uses.now) imports.now }
     requires nodes { imported.old.nodes ≡ length uses.now }
     requires none { imported.old.order ≡ [] }
-    ensures sorted { IfOk result (λ complete. IsTrue complete → by_class types.now imports.now ≡ imports.now) }
-    ensures complete { IfOk result (λ complete. IsTrue complete → fresh_entries [] (flat_map (import_with_needs types.now uses.now) (by_class types.now imports.now)) ≡ imports.now) }
+    ensures sorted { IfOk result
+        (λ complete. IsTrue complete → by_class types.now imports.now ≡ imports.now) }
+    ensures complete { IfOk result (λ complete.
+        IsTrue complete
+        → fresh_entries []
+        (flat_map (import_with_needs types.now uses.now) (by_class types.now imports.now))
+        ≡ imports.now) }
     ensures nodes { imported.new.nodes ≡ imported.old.nodes }
 {
     imports.keys_differ();
@@ -60,8 +65,10 @@ fn stand_in_order(
     requires listed { AreSound types.now (length uses.now) imports.now }
     requires nodes { imported.old.nodes ≡ length uses.now }
     requires none { imported.old.order ≡ [] }
-    ensures order { IfOk result (λ complete. IsTrue complete → DependenciesFirst types.now uses.now [] imports.now) }
-    ensures settled { IfOk result (λ complete. IsTrue complete → Each (λ e. without_span e.1 ≡ e.1) imports.now) }
+    ensures order { IfOk result
+        (λ complete. IsTrue complete → DependenciesFirst types.now uses.now [] imports.now) }
+    ensures settled { IfOk result
+        (λ complete. IsTrue complete → Each (λ e. without_span e.1 ≡ e.1) imports.now) }
     ensures nodes { imported.new.nodes ≡ imported.old.nodes }
 {
     for (key, item) in imports.iter() {
@@ -76,8 +83,10 @@ fn stand_in_order(
 /// Lists the interface that a key names.
 fn list_key(imported: &mut Listing, key: &WorldKey) -> Result<(), AllocError>
     requires in_range { All (λ i. i < imported.old.nodes) (key_interface key.now) }
-    requires new { (i : ℕ) → Contains (key_interface key.now) i → Contains imported.old.order i → ⊥ }
-    ensures ok { OnOk result (imported.new ≡ record imported.old { order = imported.old.order ++ key_interface key.now }) }
+    requires new { (i : ℕ) → Contains (key_interface key.now) i → Contains imported.old.order i
+        → ⊥ }
+    ensures ok { OnOk result (imported.new
+        ≡ record imported.old { order = imported.old.order ++ key_interface key.now }) }
     ensures nodes { imported.new.nodes ≡ imported.old.nodes }
 {
     match key {
@@ -96,7 +105,9 @@ fn is_in_place(
     requires acyclic { IsAcyclic uses.now }
     requires role { IsRoleInRange (length uses.now) (role_of types.now item.now) }
     requires nodes { imported.now.nodes ≡ length uses.now }
-    ensures { IsTrue result ↔ (without_span item.now ≡ item.now) × All (Contains imported.now.order) (stands_on uses.now (role_of types.now item.now)) }
+    ensures { IsTrue result
+        ↔ (without_span item.now ≡ item.now)
+        × All (Contains imported.now.order) (stands_on uses.now (role_of types.now item.now)) }
 {
     is_settled(item) && stands(uses, imported, Role::of(types, item))
 }

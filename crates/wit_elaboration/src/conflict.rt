@@ -28,7 +28,8 @@ use wit_values::{Items, Table};
 /// Lists a node, unless it is listed.
 fn add_node(listing: &mut Listing, node: usize) -> Result<(), AllocError>
     requires { node < listing.old.nodes }
-    ensures ok { OnOk result (listing.new.order ≡ listing.old.order ++ fresh listing.old.order (node ∷ [])) }
+    ensures ok { OnOk result
+        (listing.new.order ≡ listing.old.order ++ fresh listing.old.order (node ∷ [])) }
     ensures nodes { listing.new.nodes ≡ listing.old.nodes }
 {
     if !listing.has(node) {
@@ -66,7 +67,9 @@ fn list_exports_by(
     requires in_range { All (λ i. i < length uses.now) (exported_interfaces exports.now) }
     requires post_order { IsPostOrder uses.now walked.old }
     requires none { walked.old.order ≡ [] }
-    ensures ok { OnOk result (walked.new.order ≡ first_of_each (flat_map (λ i. dependencies_before uses.now (Role.Instance i)) (exported_interfaces exports.now))) }
+    ensures ok { OnOk result (walked.new.order
+        ≡ first_of_each (flat_map (λ i. dependencies_before uses.now (Role.Instance i))
+        (exported_interfaces exports.now))) }
     ensures post_order { IsPostOrder uses.now walked.new }
 {
     for (_, item) in exports.iter() {
@@ -96,7 +99,8 @@ fn is_reaching(uses: &[Items<usize>], targets: &Listing, marked: &Listing, node:
     requires node { node < length uses.now }
     requires targets { targets.now.nodes ≡ length uses.now }
     requires marked { marked.now.nodes ≡ length uses.now }
-    ensures { IsTrue result ↔ (Contains targets.now.order node ⊎ HasMarkedUse uses.now marked.now.order node) }
+    ensures { IsTrue result
+        ↔ (Contains targets.now.order node ⊎ HasMarkedUse uses.now marked.now.order node) }
 {
     targets.has(node) || has_any(marked, direct_uses(uses, node))
 }
@@ -129,7 +133,8 @@ fn mark_reaching(
 fn is_outside(reaching: &Listing, exported: &Listing, node: usize) -> bool
     requires reaching { node < reaching.now.nodes }
     requires exported { node < exported.now.nodes }
-    ensures { IsTrue result ↔ (Contains reaching.now.order node × (Contains exported.now.order node → ⊥)) }
+    ensures { IsTrue result
+        ↔ (Contains reaching.now.order node × (Contains exported.now.order node → ⊥)) }
 {
     reaching.has(node) && !exported.has(node)
 }
@@ -145,7 +150,8 @@ fn list_outside(
     requires exported { exported.now.nodes ≡ reaching.now.nodes }
     requires outside { outside.old.nodes ≡ reaching.now.nodes }
     requires none { outside.old.order ≡ [] }
-    ensures ok { OnOk result (AreOutside order.now reaching.now.order exported.now.order outside.new.order) }
+    ensures ok { OnOk result
+        (AreOutside order.now reaching.now.order exported.now.order outside.new.order) }
     ensures nodes { outside.new.nodes ≡ outside.old.nodes }
 {
     for node in order {
@@ -165,7 +171,9 @@ fn first_conflict(
 ) -> Option<usize>
     requires in_range { All (λ i. i < length uses.now) (exported_interfaces exports.now) }
     requires uses_in_range { (i : ℕ) → All (λ j. j < leading.now.nodes) (direct uses.now i) }
-    requires marked { (e : Entry) → (i : ℕ) → Contains exports.now e → Contains (item_interface e.1) i → HasMarkedUse uses.now leading.now.order i ↔ LeadsToConflict uses.now exports.now i }
+    requires marked { (e : Entry) → (i : ℕ) → Contains exports.now e
+        → Contains (item_interface e.1) i
+        → HasMarkedUse uses.now leading.now.order i ↔ LeadsToConflict uses.now exports.now i }
     ensures { IsFirstConflict uses.now exports.now result }
 {
     for index in 0..exports.len() {
@@ -254,7 +262,8 @@ pub(crate) fn find_refused(
     rows: &Option<ClosureRows>,
 ) -> Result<Option<usize>, AllocError>
     requires acyclic { IsAcyclic uses.now }
-    requires own { (j : ℕ) → Contains (exported_keys exports.now) j → Contains (exported_interfaces exports.now) j }
+    requires own { (j : ℕ) → Contains (exported_keys exports.now) j
+        → Contains (exported_interfaces exports.now) j }
     requires rows { IfSome rows.now (λ r. IsClosureOf uses.now r) }
     requires interfaces { All (λ i. i < length uses.now) (exported_interfaces exports.now) }
     requires keys { All (λ i. i < length uses.now) (exported_keys exports.now) }

@@ -31,7 +31,8 @@ pub fn is_elaborable(alloc: Global, graph: &Graph, world: WorldId) -> Result<boo
 /// Whether the keys and ids of a world are in order, over these types and so many interfaces: what
 /// stands under the key of an interface is that interface, and the interfaces of all entries are there.
 fn has_sound_entries(types: &[TypeDef], interfaces: usize, world: &World) -> bool
-    ensures { IsTrue result ↔ HasSoundEntries types.now interfaces world.now.imports world.now.exports }
+    ensures { IsTrue result
+        ↔ HasSoundEntries types.now interfaces world.now.imports world.now.exports }
 {
     are_sound(types, interfaces, &world.imports) && are_sound(types, interfaces, &world.exports)
 }

@@ -46,7 +46,8 @@ impl Model for Elaborator {
 
     ghost view = { λ a. a.uses };
 
-    ghost invariant = { λ a. HaveNodes a.marks (length a.uses) × IfSome a.rows (λ rows. IsClosureOf a.uses rows) };
+    ghost invariant = { λ a. HaveNodes a.marks (length a.uses)
+        × IfSome a.rows (λ rows. IsClosureOf a.uses rows) };
 }
 
 impl Elaborator {
@@ -114,7 +115,7 @@ impl Elaborator {
     /// One interface more, which uses these. Where there is no memory it is as before.
     fn add_uses(&mut self, used: Items<usize>) -> Result<(), AllocError>
         ensures ok { OnOk result (self.new ≡ self.old ++ used ∷ []) }
-        ensures err { OnErr result (self.new ≡ self.old) }
+        ensures unchanged { OnErr result (self.new ≡ self.old) }
     {
         let interfaces = self.uses.len();
         self.rows = None;
@@ -157,8 +158,9 @@ impl Elaborator {
         requires acyclic { IsAcyclic (graph_uses graph.old) }
         requires listed { HasSoundEntriesAt graph.old world }
         ensures ok { OnOk result (ElaboratesWorld graph.old world graph.new) }
-        ensures err { OnErr result (graph.new ≡ graph.old) }
-        ensures cause { IfErr result (λ e. (e ≡ OutOfMemory) ⊎ IsElaborationError graph.old world e) }
+        ensures unchanged { OnErr result (graph.new ≡ graph.old) }
+        ensures cause { IfErr result
+            (λ e. (e ≡ OutOfMemory) ⊎ IsElaborationError graph.old world e) }
         ensures refuses { HasConflictAt graph.old world → OnOk result ⊥ }
         ensures same { self.new ≡ self.old }
     {
@@ -175,11 +177,18 @@ impl Elaborator {
     pub fn lists_for(&mut self, alloc: Global, graph: &Graph, world: &World) -> ResolveResult<Lists>
         requires uses { self.old ≡ graph_uses graph.now }
         requires acyclic { IsAcyclic (graph_uses graph.now) }
-        requires listed { HasSoundEntries graph.now.types (length graph.now.interfaces) world.now.imports world.now.exports }
-        ensures no_conflict { OnOk result (HasTransitiveConflict (graph_uses graph.now) world.now.exports → ⊥) }
-        ensures imports { IfOk result (λ lists. lists.imports ≡ elaborated_imports graph.now.types (graph_uses graph.now) world.now.imports world.now.exports) }
-        ensures exports { IfOk result (λ lists. lists.exports ≡ elaborated_exports (graph_uses graph.now) world.now.exports) }
-        ensures cause { IfErr result (λ e. (e ≡ OutOfMemory) ⊎ IsConflictError graph.now world.now e) }
+        requires listed { HasSoundEntries graph.now.types (length graph.now.interfaces)
+            world.now.imports world.now.exports }
+        ensures no_conflict { OnOk result
+            (HasTransitiveConflict (graph_uses graph.now) world.now.exports → ⊥) }
+        ensures imports { IfOk result (λ lists.
+            lists.imports
+            ≡ elaborated_imports graph.now.types (graph_uses graph.now) world.now.imports
+            world.now.exports) }
+        ensures exports { IfOk result (λ lists.
+            lists.exports ≡ elaborated_exports (graph_uses graph.now) world.now.exports) }
+        ensures cause { IfErr result
+            (λ e. (e ≡ OutOfMemory) ⊎ IsConflictError graph.now world.now e) }
         ensures same { self.new ≡ self.old }
     {
         let uses = self.uses.as_slice();
@@ -202,9 +211,13 @@ impl Elaborator {
     pub fn is_complete(&mut self, graph: &Graph, world: &World) -> Result<bool, AllocError>
         requires uses { self.old ≡ graph_uses graph.now }
         requires acyclic { IsAcyclic (graph_uses graph.now) }
-        requires listed { HasSoundEntries graph.now.types (length graph.now.interfaces) world.now.imports world.now.exports }
-        ensures no_conflict { IfOk result (λ complete. IsTrue complete → HasTransitiveConflict (graph_uses graph.now) world.now.exports → ⊥) }
-        ensures own { IfOk result (λ complete. IsTrue complete → elaborated_world graph.now world.now ≡ world.now) }
+        requires listed { HasSoundEntries graph.now.types (length graph.now.interfaces)
+            world.now.imports world.now.exports }
+        ensures no_conflict { IfOk result (λ complete.
+            IsTrue complete → HasTransitiveConflict (graph_uses graph.now) world.now.exports
+            → ⊥) }
+        ensures own { IfOk result
+            (λ complete. IsTrue complete → elaborated_world graph.now world.now ≡ world.now) }
         ensures same { self.new ≡ self.old }
     {
         if !exports_no_interface(&world.exports) {
@@ -238,7 +251,7 @@ fn conflict_error(
 ) -> ResolveResult<ResolveError>
     requires { index < length world.now.exports }
     ensures error { IfOk result (λ e. IsErrorAt graph.now world.now index e) }
-    ensures err { IfErr result (λ e. e ≡ OutOfMemory) }
+    ensures memory { IfErr result (λ e. e ≡ OutOfMemory) }
 {
     let (key, _) = world.exports.entry_at(index);
     let name = graph.name_world_key(alloc, key)?;
@@ -258,11 +271,15 @@ fn lists_of(
     world: &World,
 ) -> Result<Lists, AllocError>
     requires acyclic { IsAcyclic uses.now }
-    requires listed { HasSoundEntries types.now (length uses.now) world.now.imports world.now.exports }
+    requires listed { HasSoundEntries types.now (length uses.now) world.now.imports
+        world.now.exports }
     requires nodes { HaveNodes marks.old (length uses.now) }
     requires exported { IsExportedList marks.old.exported.order world.now.exports }
-    ensures imports { IfOk result (λ lists. lists.imports ≡ elaborated_imports types.now uses.now world.now.imports world.now.exports) }
-    ensures exports { IfOk result (λ lists. lists.exports ≡ elaborated_exports uses.now world.now.exports) }
+    ensures imports { IfOk result (λ lists.
+        lists.imports
+        ≡ elaborated_imports types.now uses.now world.now.imports world.now.exports) }
+    ensures exports { IfOk result
+        (λ lists. lists.exports ≡ elaborated_exports uses.now world.now.exports) }
     ensures nodes { HaveNodes marks.new (length uses.now) }
 {
     world.exports.keys_differ();
@@ -308,7 +325,7 @@ pub fn elaborate(alloc: Global, graph: &mut Graph, world: WorldId) -> ResolveRes
     requires acyclic { IsAcyclic (graph_uses graph.old) }
     requires listed { HasSoundEntriesAt graph.old world }
     ensures ok { OnOk result (ElaboratesWorld graph.old world graph.new) }
-    ensures err { OnErr result (graph.new ≡ graph.old) }
+    ensures unchanged { OnErr result (graph.new ≡ graph.old) }
     ensures cause { IfErr result (λ e. (e ≡ OutOfMemory) ⊎ IsElaborationError graph.old world e) }
     ensures refuses { HasConflictAt graph.old world → OnOk result ⊥ }
 {

@@ -36,7 +36,8 @@ pub(crate) fn add_copy(
     key: &WorldKey,
     item: &WorldItem,
 ) -> Result<(), AllocError>
-    ensures { OnOk result (entries.new ≡ entries.old ++ fresh_entries (keys_of entries.old) ((key.now, item.now) ∷ [])) }
+    ensures { OnOk result (entries.new
+        ≡ entries.old ++ fresh_entries (keys_of entries.old) ((key.now, item.now) ∷ [])) }
 {
     if has_key(entries, key) {
         return Ok(());
@@ -51,7 +52,9 @@ pub(crate) fn add_import(
     key: &WorldKey,
     item: &WorldItem,
 ) -> Result<(), AllocError>
-    ensures { OnOk result (entries.new ≡ entries.old ++ fresh_entries (keys_of entries.old) ((key.now, without_span item.now) ∷ [])) }
+    ensures { OnOk result (entries.new
+        ≡ entries.old
+        ++ fresh_entries (keys_of entries.old) ((key.now, without_span item.now) ∷ [])) }
 {
     if has_key(entries, key) {
         return Ok(());
@@ -77,7 +80,9 @@ fn add_dependency(
     carried: &InheritedData,
     interface: usize,
 ) -> Result<(), AllocError>
-    ensures { OnOk result (entries.new ≡ entries.old ++ fresh_entries (keys_of entries.old) (dependency_of carried.now interface ∷ [])) }
+    ensures { OnOk result (entries.new
+        ≡ entries.old
+        ++ fresh_entries (keys_of entries.old) (dependency_of carried.now interface ∷ [])) }
 {
     let id = InterfaceId::from_index(interface);
     let key = WorldKey::Interface(id);
@@ -103,7 +108,10 @@ pub(crate) fn add_dependencies(
     carried: &InheritedData,
     interfaces: &[usize],
 ) -> Result<(), AllocError>
-    ensures { OnOk result (entries.new ≡ entries.old ++ fresh_entries (keys_of entries.old) (map (dependency_of carried.now) interfaces.now)) }
+    ensures { OnOk result (entries.new
+        ≡ entries.old
+        ++ fresh_entries (keys_of entries.old)
+        (map (dependency_of carried.now) interfaces.now)) }
 {
     for interface in interfaces {
         add_dependency(entries, carried, *interface)?;

@@ -31,8 +31,10 @@ fn part_by_export(
     interfaces: &[usize],
 ) -> Result<Parted, AllocError>
     requires { All (λ i. i < exported.now.nodes) interfaces.now }
-    ensures exported { IfOk result (λ p. p.exported ≡ filter (is_listed exported.now) interfaces.now) }
-    ensures others { IfOk result (λ p. p.others ≡ filter (λ i. not (is_listed exported.now i)) interfaces.now) }
+    ensures exported { IfOk result
+        (λ p. p.exported ≡ filter (is_listed exported.now) interfaces.now) }
+    ensures others { IfOk result
+        (λ p. p.others ≡ filter (λ i. not (is_listed exported.now i)) interfaces.now) }
 {
     let mut parted = Parted {
         exported: Items::new(alloc),
@@ -50,8 +52,14 @@ fn part_by_export(
 
 /// Exports those of some interfaces that are exported, and imports the others.
 fn add_parted(lists: &mut Lists, carried: &InheritedData, parted: &Parted) -> Result<(), AllocError>
-    ensures exports { OnOk result (lists.new.exports ≡ lists.old.exports ++ fresh_entries (keys_of lists.old.exports) (map (dependency_of carried.now) parted.now.exported)) }
-    ensures imports { OnOk result (lists.new.imports ≡ lists.old.imports ++ fresh_entries (keys_of lists.old.imports) (map (dependency_of carried.now) parted.now.others)) }
+    ensures exports { OnOk result (lists.new.exports
+        ≡ lists.old.exports
+        ++ fresh_entries (keys_of lists.old.exports)
+        (map (dependency_of carried.now) parted.now.exported)) }
+    ensures imports { OnOk result (lists.new.imports
+        ≡ lists.old.imports
+        ++ fresh_entries (keys_of lists.old.imports)
+        (map (dependency_of carried.now) parted.now.others)) }
 {
     add_dependencies(&mut lists.exports, carried, parted.exported.as_slice())?;
     add_dependencies(&mut lists.imports, carried, parted.others.as_slice())
@@ -67,8 +75,16 @@ fn add_walked(
     interfaces: &[usize],
 ) -> Result<(), AllocError>
     requires { All (λ i. i < exported.now.nodes) interfaces.now }
-    ensures exports { OnOk result (lists.new.exports ≡ lists.old.exports ++ fresh_entries (keys_of lists.old.exports) (map (dependency_of (inherited_by_export item.now)) (filter (is_listed exported.now) interfaces.now))) }
-    ensures imports { OnOk result (lists.new.imports ≡ lists.old.imports ++ fresh_entries (keys_of lists.old.imports) (map (dependency_of (inherited_by_export item.now)) (filter (λ i. not (is_listed exported.now i)) interfaces.now))) }
+    ensures exports { OnOk result (lists.new.exports
+        ≡ lists.old.exports
+        ++ fresh_entries (keys_of lists.old.exports)
+        (map (dependency_of (inherited_by_export item.now))
+        (filter (is_listed exported.now) interfaces.now))) }
+    ensures imports { OnOk result (lists.new.imports
+        ≡ lists.old.imports
+        ++ fresh_entries (keys_of lists.old.imports)
+        (map (dependency_of (inherited_by_export item.now))
+        (filter (λ i. not (is_listed exported.now i)) interfaces.now))) }
 {
     let parted = part_by_export(alloc, exported, interfaces)?;
     let carried = export_data(item)?;
@@ -91,10 +107,23 @@ fn export_entry(
     requires acyclic { IsAcyclic uses.now }
     requires interface { interface < length uses.now }
     requires exported { exported.now.nodes ≡ length uses.now }
-    requires state { IsExporting uses.now (is_listed exported.now) walked.old lists.old.imports lists.old.exports }
-    ensures exports { OnOk result (lists.new.exports ≡ lists.old.exports ++ fresh_entries (keys_of lists.old.exports) (map (dependency_of (inherited_by_export item.now)) (filter (is_listed exported.now) (dependencies_before uses.now (Role.Instance interface))) ++ (key.now, item.now) ∷ [])) }
-    ensures imports { OnOk result (lists.new.imports ≡ lists.old.imports ++ fresh_entries (keys_of lists.old.imports) (map (dependency_of (inherited_by_export item.now)) (filter (λ i. not (is_listed exported.now i)) (dependencies_before uses.now (Role.Instance interface))))) }
-    ensures state { OnOk result (IsExporting uses.now (is_listed exported.now) walked.new lists.new.imports lists.new.exports) }
+    requires state { IsExporting uses.now (is_listed exported.now) walked.old lists.old.imports
+        lists.old.exports }
+    ensures exports { OnOk result (lists.new.exports
+        ≡ lists.old.exports
+        ++ fresh_entries (keys_of lists.old.exports)
+        (map (dependency_of (inherited_by_export item.now))
+        (filter (is_listed exported.now)
+        (dependencies_before uses.now (Role.Instance interface)))
+        ++ (key.now, item.now) ∷ [])) }
+    ensures imports { OnOk result (lists.new.imports
+        ≡ lists.old.imports
+        ++ fresh_entries (keys_of lists.old.imports)
+        (map (dependency_of (inherited_by_export item.now))
+        (filter (λ i. not (is_listed exported.now i))
+        (dependencies_before uses.now (Role.Instance interface))))) }
+    ensures state { OnOk result (IsExporting uses.now (is_listed exported.now) walked.new
+        lists.new.imports lists.new.exports) }
     ensures nodes { walked.new.nodes ≡ walked.old.nodes }
 {
     let start = walked.order().len();
@@ -108,7 +137,10 @@ pub(crate) fn add_functions(
     exports: &mut Table<WorldKey, WorldItem>,
     listed: &Table<WorldKey, WorldItem>,
 ) -> Result<(), AllocError>
-    ensures { OnOk result (exports.new ≡ exports.old ++ fresh_entries (keys_of exports.old) (filter (λ e. not (is_interface e)) listed.now)) }
+    ensures { OnOk result (exports.new
+        ≡ exports.old
+        ++ fresh_entries (keys_of exports.old)
+        (filter (λ e. not (is_interface e)) listed.now)) }
 {
     for (key, item) in listed.iter() {
         match item_interface(item) {
@@ -132,9 +164,17 @@ pub(crate) fn export_listed(
     requires acyclic { IsAcyclic uses.now }
     requires in_range { All (λ i. i < length uses.now) (exported_interfaces listed.now) }
     requires exported { exported.now.nodes ≡ length uses.now }
-    requires state { IsExporting uses.now (is_listed exported.now) walked.old lists.old.imports lists.old.exports }
-    ensures exports { OnOk result (lists.new.exports ≡ lists.old.exports ++ fresh_entries (keys_of lists.old.exports) (flat_map (export_with_needs uses.now (is_listed exported.now)) (filter is_interface listed.now))) }
-    ensures imports { OnOk result (lists.new.imports ≡ lists.old.imports ++ fresh_entries (keys_of lists.old.imports) (flat_map (export_needs uses.now (λ i. not (is_listed exported.now i))) listed.now)) }
+    requires state { IsExporting uses.now (is_listed exported.now) walked.old lists.old.imports
+        lists.old.exports }
+    ensures exports { OnOk result (lists.new.exports
+        ≡ lists.old.exports
+        ++ fresh_entries (keys_of lists.old.exports)
+        (flat_map (export_with_needs uses.now (is_listed exported.now))
+        (filter is_interface listed.now))) }
+    ensures imports { OnOk result (lists.new.imports
+        ≡ lists.old.imports
+        ++ fresh_entries (keys_of lists.old.imports) (flat_map
+        (export_needs uses.now (λ i. not (is_listed exported.now i))) listed.now)) }
     ensures nodes { walked.new.nodes ≡ walked.old.nodes }
 {
     for (key, item) in listed.iter() {

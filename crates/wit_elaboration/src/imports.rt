@@ -30,7 +30,11 @@ pub(crate) fn list_needs(
     requires acyclic { IsAcyclic uses.now }
     requires role { IsRoleInRange (length uses.now) role }
     requires post_order { IsPostOrder uses.now walked.old }
-    ensures ok { OnOk result (walked.new ≡ record walked.old { order = walked.old.order ++ fresh walked.old.order (dependencies_before uses.now role) }) }
+    ensures ok { OnOk result (walked.new
+        ≡ record walked.old {
+          order = walked.old.order
+              ++ fresh walked.old.order (dependencies_before uses.now role);
+        }) }
     ensures post_order { IsPostOrder uses.now walked.new }
 {
     match role {
@@ -50,7 +54,12 @@ fn list_uses(
     requires acyclic { IsAcyclic uses.now }
     requires interface { interface < length uses.now }
     requires post_order { IsPostOrder uses.now walked.old }
-    ensures ok { OnOk result (walked.new ≡ record walked.old { order = walked.old.order ++ fresh walked.old.order (dependencies_before uses.now (Role.Instance interface)) }) }
+    ensures ok { OnOk result (walked.new
+        ≡ record walked.old {
+          order = walked.old.order
+              ++ fresh walked.old.order
+              (dependencies_before uses.now (Role.Instance interface));
+        }) }
     ensures post_order { IsPostOrder uses.now walked.new }
 {
     for used in direct_uses(uses, interface) {
@@ -81,7 +90,10 @@ fn import_entry(
     requires acyclic { IsAcyclic uses.now }
     requires role { IsRoleInRange (length uses.now) (role_of types.now item.now) }
     requires state { IsImporting uses.now walked.old imports.old }
-    ensures imports { OnOk result (imports.new ≡ imports.old ++ fresh_entries (keys_of imports.old) (import_with_needs types.now uses.now (key.now, item.now))) }
+    ensures imports { OnOk result (imports.new
+        ≡ imports.old
+        ++ fresh_entries (keys_of imports.old)
+        (import_with_needs types.now uses.now (key.now, item.now))) }
     ensures state { OnOk result (IsImporting uses.now walked.new imports.new) }
     ensures nodes { walked.new.nodes ≡ walked.old.nodes }
 {
@@ -98,7 +110,10 @@ fn add_needed(
     item: &WorldItem,
     interfaces: &[usize],
 ) -> Result<(), AllocError>
-    ensures { OnOk result (imports.new ≡ imports.old ++ fresh_entries (keys_of imports.old) (map (dependency_of (inherited_by_import types.now item.now)) interfaces.now)) }
+    ensures { OnOk result (imports.new
+        ≡ imports.old
+        ++ fresh_entries (keys_of imports.old)
+        (map (dependency_of (inherited_by_import types.now item.now)) interfaces.now)) }
 {
     let carried = import_data(types, item)?;
     let added = add_dependencies(imports, &carried, interfaces);
@@ -119,7 +134,10 @@ fn import_class(
     requires acyclic { IsAcyclic uses.now }
     requires listed { AreSound types.now (length uses.now) listed.now }
     requires state { IsImporting uses.now walked.old imports.old }
-    ensures imports { OnOk result (imports.new ≡ imports.old ++ fresh_entries (keys_of imports.old) (flat_map (import_with_needs types.now uses.now) (of_class types.now class listed.now))) }
+    ensures imports { OnOk result (imports.new
+        ≡ imports.old
+        ++ fresh_entries (keys_of imports.old) (flat_map (import_with_needs types.now uses.now)
+        (of_class types.now class listed.now))) }
     ensures state { OnOk result (IsImporting uses.now walked.new imports.new) }
     ensures nodes { walked.new.nodes ≡ walked.old.nodes }
 {
@@ -143,7 +161,10 @@ pub(crate) fn import_listed(
     requires listed { AreSound types.now (length uses.now) listed.now }
     requires post_order { IsPostOrder uses.now walked.old }
     requires none { walked.old.order ≡ [] }
-    ensures imports { IfOk result (λ imports. imports ≡ fresh_entries [] (flat_map (import_with_needs types.now uses.now) (by_class types.now listed.now))) }
+    ensures imports { IfOk result (λ imports.
+        imports
+        ≡ fresh_entries []
+        (flat_map (import_with_needs types.now uses.now) (by_class types.now listed.now))) }
     ensures nodes { walked.new.nodes ≡ walked.old.nodes }
 {
     let mut imports = Table::new(alloc);
@@ -160,7 +181,9 @@ fn add_class(
     entries: &Table<WorldKey, WorldItem>,
     class: u32,
 ) -> Result<(), AllocError>
-    ensures { OnOk result (sorted.new ≡ sorted.old ++ fresh_entries (keys_of sorted.old) (of_class types.now class entries.now)) }
+    ensures { OnOk result (sorted.new
+        ≡ sorted.old
+        ++ fresh_entries (keys_of sorted.old) (of_class types.now class entries.now)) }
 {
     for (key, item) in entries.iter() {
         if Role::of(types, item).class() == class {

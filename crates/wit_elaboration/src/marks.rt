@@ -56,7 +56,10 @@ impl Marks {
     /// No marks, for so many interfaces.
     pub(crate) fn new(alloc: Global, interfaces: usize) -> Result<Marks, AllocError>
         ensures nodes { IfOk result (λ marks. HaveNodes marks interfaces) }
-        ensures none { IfOk result (λ marks. (marks.walked.order ≡ []) × (marks.exported.order ≡ []) × (marks.reaching.order ≡ []) × (marks.outside.order ≡ []) × (marks.leading.order ≡ [])) }
+        ensures none { IfOk result (λ marks.
+            (marks.walked.order ≡ []) × (marks.exported.order ≡ [])
+            × (marks.reaching.order ≡ []) × (marks.outside.order ≡ [])
+            × (marks.leading.order ≡ [])) }
     {
         let mut marks = Marks::empty(alloc);
         marks.walked = Listing::new(alloc, interfaces)?;

@@ -18,7 +18,8 @@ const LANES: usize = 4;
 fn or_lanes(into: &mut [u64], from: &[u64], at: usize)
     requires into_holds { at + 4 ≤ length into.old }
     requires from_holds { at + 4 ≤ length from.now }
-    ensures { into.new ≡ put_chunk at into.old (zip2 bit_or (chunk at 4 into.old) (chunk at 4 from.now)) }
+    ensures { into.new
+        ≡ put_chunk at into.old (zip2 bit_or (chunk at 4 into.old) (chunk at 4 from.now)) }
 {
     let joined = u64x4::from_slice(&into[at..]) | u64x4::from_slice(&from[at..]);
     joined.copy_to_slice(&mut into[at..]);
@@ -28,7 +29,8 @@ fn or_lanes(into: &mut [u64], from: &[u64], at: usize)
 /// It goes lane by lane over whole vectors, and word by word over what is left. It takes no memory.
 pub fn or_into(into: &mut [u64], from: &[u64])
     requires { length into.old ≡ length from.now }
-    ensures { EachIndex into.new (λ k. slice_index into.new k ≡ bit_or (slice_index into.old k) (slice_index from.now k)) }
+    ensures { EachIndex into.new
+        (λ k. slice_index into.new k ≡ bit_or (slice_index into.old k) (slice_index from.now k)) }
 {
     let vectors = into.len() / LANES;
     for i in 0..vectors {

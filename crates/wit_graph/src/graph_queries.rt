@@ -56,7 +56,7 @@ pub trait GraphQueries {
             order.items
             ≡ topological_packages (graph self.now).types (graph self.now).interfaces
             (graph self.now).worlds (graph self.now).packages) }
-        ensures err { IfErr result (λ kind. kind ≡ OutOfMemory) };
+        ensures memory { IfErr result (λ kind. kind ≡ OutOfMemory) };
 
     /// The id text of an interface with the text of the track in the place of the version, None where it has no name or
     /// isn't there. The only refusal is want of memory (28).
@@ -67,7 +67,7 @@ pub trait GraphQueries {
             option_map string_bytes text
             ≡ canonical_interface_id_at (graph self.now).packages (graph self.now).interfaces
             id) }
-        ensures err { IfErr result (λ kind. kind ≡ OutOfMemory) };
+        ensures memory { IfErr result (λ kind. kind ≡ OutOfMemory) };
 
     /// The same of an interface or a world of this name in a package, empty where the package isn't there. The only
     /// refusal is want of memory (28).
@@ -82,7 +82,7 @@ pub trait GraphQueries {
         ensures text { IfOk result (λ text.
             string_bytes text
             ≡ canonical_id_text (graph self.now).packages «package» name.now) }
-        ensures err { IfErr result (λ kind. kind ≡ OutOfMemory) };
+        ensures memory { IfErr result (λ kind. kind ≡ OutOfMemory) };
 
     /// What names a key of a world: a label as it stands, an interface by its canonical id text, which is empty where
     /// it has none. The only refusal is want of memory (28).
@@ -93,7 +93,7 @@ pub trait GraphQueries {
             string_bytes text
             ≡ canonical_key_text (graph self.now).packages (graph self.now).interfaces
             key.now) }
-        ensures err { IfErr result (λ kind. kind ≡ OutOfMemory) };
+        ensures memory { IfErr result (λ kind. kind ≡ OutOfMemory) };
 
     /// The futures and streams that the values of a function's parameters and of its result hold, of the parameters in
     /// order, then of the result, inner ones before outer ones, with repeats; not through handles and resources. The
@@ -108,7 +108,7 @@ pub trait GraphQueries {
         requires { IsAcyclic (type_references (graph self.now).types) }
         ensures found { IfOk result
             (λ found. found.items ≡ futures_and_streams (graph self.now).types function.now) }
-        ensures err { IfErr result (λ kind. kind ≡ OutOfMemory) };
+        ensures memory { IfErr result (λ kind. kind ≡ OutOfMemory) };
 }
 
 impl GraphQueries for Graph {

@@ -43,7 +43,8 @@ pub(crate) fn interface_not_found(
     requested: &Text,
     package: &PackageName,
 ) -> Result<ResolveErrorKind, AllocError>
-    ensures { IfOk result (λ copy. copy ≡ kinds.InterfaceNotFound span requested.now «package».now) }
+    ensures { IfOk result
+        (λ copy. copy ≡ kinds.InterfaceNotFound span requested.now «package».now) }
 {
     let (requested, package) = try_clone_two(requested, package)?;
     Ok(ResolveErrorKind::InterfaceNotFound {

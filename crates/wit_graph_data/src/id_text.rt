@@ -19,8 +19,9 @@ impl Graph {
     ///
     /// Source: `id_of_name` of wit-parser 0.263.0.
     pub fn id_of_name(&self, alloc: Global, package: PackageId, name: &str) -> ResolveResult<String>
-        ensures text { IfOk result (λ text. string_bytes text ≡ id_text self.now.packages «package» name.now) }
-        ensures err { IfErr result (λ e. e ≡ OutOfMemory) }
+        ensures text { IfOk result
+            (λ text. string_bytes text ≡ id_text self.now.packages «package» name.now) }
+        ensures memory { IfErr result (λ e. e ≡ OutOfMemory) }
     {
         match self.packages.get(package.index()) {
             Some(package) => Ok(id_in(alloc, &package.name, name)?),
@@ -33,8 +34,10 @@ impl Graph {
     ///
     /// Source: `id_of` of wit-parser 0.263.0.
     pub fn id_of(&self, alloc: Global, id: InterfaceId) -> ResolveResult<Option<String>>
-        ensures text { IfOk result (λ text. option_map string_bytes text ≡ interface_id_at self.now.packages self.now.interfaces id) }
-        ensures err { IfErr result (λ e. e ≡ OutOfMemory) }
+        ensures text { IfOk result (λ text.
+            option_map string_bytes text
+            ≡ interface_id_at self.now.packages self.now.interfaces id) }
+        ensures memory { IfErr result (λ e. e ≡ OutOfMemory) }
     {
         let Some(interface) = self.interfaces.get(id.index()) else {
             return Ok(None);
@@ -53,8 +56,9 @@ impl Graph {
     ///
     /// Source: `name_world_key` of wit-parser 0.263.0.
     pub fn name_world_key(&self, alloc: Global, key: &WorldKey) -> ResolveResult<String>
-        ensures text { IfOk result (λ text. string_bytes text ≡ key_text self.now.packages self.now.interfaces key.now) }
-        ensures err { IfErr result (λ e. e ≡ OutOfMemory) }
+        ensures text { IfOk result
+            (λ text. string_bytes text ≡ key_text self.now.packages self.now.interfaces key.now) }
+        ensures memory { IfErr result (λ e. e ≡ OutOfMemory) }
     {
         match key {
             WorldKey::Name(label) => Ok(String::from_str(alloc, label.as_str())?),

@@ -14,8 +14,9 @@ impl ResolveError {
     ///
     /// Source: `render` of `ResolveError` of wit-parser 0.263.0.
     pub fn render(&self, alloc: Global, source_map: &SourceMap) -> ResolveResult<String>
-        ensures text { IfOk result (λ text. string_bytes text ≡ rendered_text source_map.now.files self.now) }
-        ensures err { IfErr result (λ e. e ≡ OutOfMemory) }
+        ensures text { IfOk result
+            (λ text. string_bytes text ≡ rendered_text source_map.now.files self.now) }
+        ensures memory { IfErr result (λ e. e ≡ OutOfMemory) }
     {
         let text = format!(in alloc; "{self}")?;
         match self.kind() {
@@ -37,7 +38,8 @@ pub fn render_text(
     span: Span,
     text: &str,
 ) -> Result<String, AllocError>
-    ensures { IfOk result (λ shown. string_bytes shown ≡ text_at source_map.now.files span text.now) }
+    ensures { IfOk result
+        (λ shown. string_bytes shown ≡ text_at source_map.now.files span text.now) }
 {
     match source_map.highlight_span(alloc, span, text)? {
         Some(shown) => Ok(shown),

@@ -47,7 +47,8 @@ ItemIsKept kept (item.Type_ t span) = kept.types t ≡ true
 
 -- no kept thing names one that is left out: what the absence of the two reasons "an active item refers to an
 -- excluded one" and "the owner of an active type is excluded" says
-pub record IsClosedCut (kept : KeptIds) (types : List TypeDef) (interfaces : List Interface) (worlds : List World) : Type 0 where
+pub record IsClosedCut (kept : KeptIds) (types : List TypeDef) (interfaces : List Interface)
+    (worlds : List World) : Type 0 where
   pub in_range : (t : ℕ) → kept.types t ≡ true → t < length types
   pub interfaces_in_range : (f : ℕ) → kept.interfaces f ≡ true → f < length interfaces
   pub references : EachAt (λ t (def : TypeDef).
@@ -70,7 +71,8 @@ pub record IsClosedCut (kept : KeptIds) (types : List TypeDef) (interfaces : Lis
 
 -- what is kept is good, before the lists are cut (a shape says so, and a valid graph, and a partially linked graph of
 -- which so many worlds are finished)
-pub record IsGoodWhere (kept : KeptIds) (types : List TypeDef) (interfaces : List Interface) (worlds : List World) : Type 0 where
+pub record IsGoodWhere (kept : KeptIds) (types : List TypeDef) (interfaces : List Interface)
+    (worlds : List World) : Type 0 where
   pub types_are : EachAt
       (λ t (def : TypeDef). kept.types t ≡ true → IsGoodType types interfaces worlds t def) types
   pub interfaces_are : EachAt

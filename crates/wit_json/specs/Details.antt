@@ -81,5 +81,6 @@ world_details world =
 
 abbrev pub graph_details : Graph → Json
 graph_details graph =
-    object (member (codes "worlds") (list_of world_details graph.worlds) ++ member (codes "interfaces") (list_of interface_details graph.interfaces)
+    object (member (codes "worlds") (list_of world_details graph.worlds)
+    ++ member (codes "interfaces") (list_of interface_details graph.interfaces)
     ++ member (codes "types") (list_of type_details graph.types))

@@ -37,5 +37,8 @@ json_of_param p =
 
 abbrev pub json_of_function : Function → Json
 json_of_function f =
-    object (member (codes "name") (json_of_text f.name) ++ member (codes "kind") (json_of_function_kind f.kind) ++ member (codes "params") (list_of json_of_param f.params)
-    ++ optional (codes "result") (option_map json_of_type f.result_) ++ docs_member f.docs ++ stability_member f.stability)
+    object (member (codes "name") (json_of_text f.name)
+    ++ member (codes "kind") (json_of_function_kind f.kind) ++ member (codes "params")
+    (list_of json_of_param f.params)
+    ++ optional (codes "result") (option_map json_of_type f.result_) ++ docs_member f.docs
+    ++ stability_member f.stability)

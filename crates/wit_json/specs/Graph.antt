@@ -19,7 +19,8 @@ json_of_package_name name = json_of_text (package_name_text name)
 
 abbrev pub json_of_package : Package → Json
 json_of_package p =
-    object (member (codes "name") (json_of_package_name p.name) ++ docs_member p.docs ++ member (codes "interfaces") (object_under_names json_of_number p.interfaces)
+    object (member (codes "name") (json_of_package_name p.name) ++ docs_member p.docs
+    ++ member (codes "interfaces") (object_under_names json_of_number p.interfaces)
     ++ member (codes "worlds") (object_under_names json_of_number p.worlds))
 
 -- each thing stands in its list at the index that is its id

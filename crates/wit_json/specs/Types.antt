@@ -96,5 +96,6 @@ json_of_owner owner.None = json.null
 
 abbrev pub json_of_type_def : TypeDef → Json
 json_of_type_def def =
-    object (member (codes "name") (null_or json_of_text def.name) ++ member (codes "kind") (json_of_kind def.kind) ++ member (codes "owner") (json_of_owner def.owner)
+    object (member (codes "name") (null_or json_of_text def.name) ++ member (codes "kind")
+    (json_of_kind def.kind) ++ member (codes "owner") (json_of_owner def.owner)
     ++ docs_member def.docs ++ stability_member def.stability)

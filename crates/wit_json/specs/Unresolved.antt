@@ -71,8 +71,10 @@ whole_kind k = json_of_kind k
 
 abbrev pub whole_type : TypeDef → Json
 whole_type def =
-    object (member (codes "name") (null_or json_of_text def.name) ++ member (codes "kind") (whole_kind def.kind) ++ member (codes "owner") (json_of_owner def.owner)
-    ++ docs_member def.docs ++ stability_member def.stability ++ span_member def.span ++ external_id_member def.external_id)
+    object (member (codes "name") (null_or json_of_text def.name) ++ member (codes "kind")
+    (whole_kind def.kind) ++ member (codes "owner") (json_of_owner def.owner)
+    ++ docs_member def.docs ++ stability_member def.stability ++ span_member def.span
+    ++ external_id_member def.external_id)
 
 abbrev pub whole_param : Param → Json
 whole_param p =
@@ -81,14 +83,18 @@ whole_param p =
 
 abbrev pub whole_function : Function → Json
 whole_function f =
-    object (member (codes "name") (json_of_text f.name) ++ member (codes "kind") (json_of_function_kind f.kind) ++ member (codes "params") (list_of whole_param f.params)
-    ++ optional (codes "result") (option_map json_of_type f.result_) ++ docs_member f.docs ++ stability_member f.stability ++ span_member f.span ++ external_id_member f.external_id)
+    object (member (codes "name") (json_of_text f.name)
+    ++ member (codes "kind") (json_of_function_kind f.kind) ++ member (codes "params")
+    (list_of whole_param f.params)
+    ++ optional (codes "result") (option_map json_of_type f.result_) ++ docs_member f.docs
+    ++ stability_member f.stability ++ span_member f.span ++ external_id_member f.external_id)
 
 -- ---- interfaces and worlds
 
 abbrev pub whole_interface : Interface → Json
 whole_interface interface =
-    object (member (codes "name") (null_or json_of_text interface.name) ++ member (codes "types") (object_under_names json_of_number interface.types)
+    object (member (codes "name") (null_or json_of_text interface.name) ++ member (codes "types")
+    (object_under_names json_of_number interface.types)
     ++ member (codes "functions") (object_under_names whole_function interface.functions)
     ++ docs_member interface.docs ++ stability_member interface.stability
     ++ span_member interface.span)
@@ -121,13 +127,16 @@ json_of_include_name name =
 
 abbrev pub json_of_include : WorldInclude → Json
 json_of_include include =
-    object (member (codes "id") (json_of_number include.id) ++ member (codes "names") (list_of json_of_include_name include.names) ++ stability_member include.stability
+    object (member (codes "id") (json_of_number include.id) ++ member (codes "names")
+    (list_of json_of_include_name include.names) ++ stability_member include.stability
     ++ span_member include.span)
 
 abbrev pub whole_world : World → Json
 whole_world world =
-    object (member (codes "name") (json_of_text world.name) ++ member (codes "imports") (whole_entries world.imports) ++ member (codes "exports") (whole_entries world.exports)
-    ++ member (codes "includes") (list_of json_of_include world.includes) ++ docs_member world.docs ++ stability_member world.stability ++ span_member world.span)
+    object (member (codes "name") (json_of_text world.name) ++ member (codes "imports")
+    (whole_entries world.imports) ++ member (codes "exports") (whole_entries world.exports)
+    ++ member (codes "includes") (list_of json_of_include world.includes) ++ docs_member world.docs
+    ++ stability_member world.stability ++ span_member world.span)
 
 -- ---- what is named of other packages
 
@@ -154,10 +163,13 @@ json_of_deps deps =
 
 abbrev pub json_of_unresolved : UnresolvedPackage → Json
 json_of_unresolved p =
-    object (member (codes "name") (json_of_package_name p.name) ++ span_member p.package_name_span ++ docs_member p.docs ++ member (codes "worlds") (list_of whole_world p.worlds)
+    object (member (codes "name") (json_of_package_name p.name) ++ span_member p.package_name_span
+    ++ docs_member p.docs ++ member (codes "worlds") (list_of whole_world p.worlds)
     ++ member (codes "interfaces") (list_of whole_interface p.interfaces)
     ++ member (codes "types") (list_of whole_type p.types)
     ++ member (codes "foreign-deps") (json_of_deps p.foreign_deps)
     ++ member (codes "foreign-dep-spans") (list_of json_of_span p.foreign_dep_spans)
     ++ member (codes "unknown-type-spans") (list_of json_of_span p.unknown_type_spans)
-    ++ member (codes "required-resources") (list_of (λ (r : ℕ × Option (ℕ × ℕ)). pair (json_of_number r.0) (json_of_span r.1)) p.required_resource_types))
+    ++ member (codes "required-resources")
+    (list_of (λ (r : ℕ × Option (ℕ × ℕ)). pair (json_of_number r.0) (json_of_span r.1))
+    p.required_resource_types))

@@ -34,5 +34,7 @@ json_of_sources sources = list_of json_of_file (files_of sources.files)
 -- the layout stands under a key of its own, so what reads it needs to know nothing of the rest
 abbrev pub json_of_whole : Graph → Features → TrackRule → Sources → Json
 json_of_whole graph features rule sources =
-    object (member (codes "graph") (json_of_graph graph) ++ member (codes "details") (graph_details graph) ++ member (codes "features") (json_of_features features)
-    ++ member (codes "track-rule") (json_of_rule rule) ++ member (codes "sources") (json_of_sources sources))
+    object (member (codes "graph") (json_of_graph graph) ++ member (codes "details")
+    (graph_details graph) ++ member (codes "features") (json_of_features features)
+    ++ member (codes "track-rule") (json_of_rule rule) ++ member (codes "sources")
+    (json_of_sources sources))

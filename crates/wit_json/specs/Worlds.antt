@@ -16,7 +16,8 @@ use Rattle.wit_json.specs.Values.{json_of_number, json_of_text, member, null_or,
 
 abbrev pub json_of_interface : Interface → Json
 json_of_interface interface =
-    object (member (codes "name") (null_or json_of_text interface.name) ++ member (codes "types") (object_under_names json_of_number interface.types)
+    object (member (codes "name") (null_or json_of_text interface.name) ++ member (codes "types")
+    (object_under_names json_of_number interface.types)
     ++ member (codes "functions") (object_under_names json_of_function interface.functions)
     ++ docs_member interface.docs ++ stability_member interface.stability
     ++ member (codes "package") (null_or json_of_number interface.«package»))
@@ -53,5 +54,7 @@ json_of_entries entries =
 
 abbrev pub json_of_world : World → Json
 json_of_world world =
-    object (member (codes "name") (json_of_text world.name) ++ member (codes "imports") (json_of_entries world.imports) ++ member (codes "exports") (json_of_entries world.exports)
-    ++ member (codes "package") (null_or json_of_number world.«package») ++ docs_member world.docs ++ stability_member world.stability)
+    object (member (codes "name") (json_of_text world.name) ++ member (codes "imports")
+    (json_of_entries world.imports) ++ member (codes "exports") (json_of_entries world.exports)
+    ++ member (codes "package") (null_or json_of_number world.«package») ++ docs_member world.docs
+    ++ stability_member world.stability)

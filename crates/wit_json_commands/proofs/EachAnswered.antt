@@ -1,4 +1,4 @@
--- Answers one after another, and the answers to commands.
+-- AnswersRequest one after another, and the answers to commands.
 use Rattle.std.proofs.Common.{◌≡◌, ℕ, suc, List, [], ◌∷◌, ◌++◌, refl, sym, subst}
 use Rattle.std.specs.List.{AllByRecursion}
 use Rattle.wit_data.specs.Each.{Each}
@@ -11,13 +11,13 @@ use Rattle.wit_json_commands.specs.declared.commands.orders.Order.{Order}
 use Rattle.wit_json_commands.specs.declared.commands.orders.Request.{Request}
 use Rattle.wit_json_commands.specs.declared.replies.answers.Answer.{Answer}
 use Rattle.wit_json_commands.specs.declared.replies.answers.Response.{Response}
-use Rattle.wit_json_commands.specs.Runs.{Answers, AnswersEach, Responds, RespondsEach}
+use Rattle.wit_json_commands.specs.Runs.{AnswersRequest, AnswersEach, Responds, RespondsEach}
 use Rattle.wit_json_commands.specs.Unshaped.{IsChangeShaped}
 
 -- one more request
 pub AnswersEach-more : (old mid new : State) (its : List Request) (answers : List Answer) (it : Request) (told : Answer)
-    → AnswersEach old its answers mid → Answers mid it told new → AnswersEach old (its ++ it ∷ []) (answers ++ told ∷ []) new
-AnswersEach-more old mid new [] [] it told each one = (new, subst (λ (s : State). Answers s it told new) each one, refl)
+    → AnswersEach old its answers mid → AnswersRequest mid it told new → AnswersEach old (its ++ it ∷ []) (answers ++ told ∷ []) new
+AnswersEach-more old mid new [] [] it told each one = (new, subst (λ (s : State). AnswersRequest s it told new) each one, refl)
 AnswersEach-more old mid new (first ∷ its) (answer ∷ answers) it told each one = (each.0, each.1, AnswersEach-more each.0 mid new its answers it told each.2 one)
 AnswersEach-more old mid new [] (answer ∷ answers) it told each one = absurd each
 AnswersEach-more old mid new (first ∷ its) [] it told each one = absurd each

@@ -12,7 +12,7 @@ use Rattle.wit_shape.specs.declared.fault.ShapeFault.{ShapeFault}
 use Rattle.wit_commands.specs.declared.change.Change.{Change}
 use Rattle.wit_json_commands.specs.declared.replies.unshaped.Unshaped.{Unshaped}
 use Rattle.wit_json_commands.specs.declared.replies.answers.Answer.TheVariants as answer
-use Rattle.wit_json_commands.specs.Runs.{AnswersChange}
+use Rattle.wit_json_commands.specs.Runs.{CarriesOut}
 use Rattle.wit_json_commands.specs.Unshaped.{IsChangeShaped, IsGroupFault, IsPushFault}
 use Rattle.wit_json_commands.specs.steps.Searching.{IsAmongDeps, TellsChange, TellsDeps, TellsGroup, TellsNested, TellsPush}
 use Rattle.wit_resolve_graph.specs.State.{State}
@@ -126,7 +126,7 @@ pub change_shaped : (it : Change) (found : Option Unshaped) → TellsChange it f
 change_shaped it found told is = subst (λ (o : Option Unshaped). TellsChange it o) is told
 
 -- another one is answered by what it lacks, and changes nothing
-pub lack_answered : (old : State) (it : Change) (found : Option Unshaped) (unshaped : Unshaped) → TellsChange it found → found ≡ Some unshaped → AnswersChange old it (answer.NotShaped unshaped) old
+pub lack_answered : (old : State) (it : Change) (found : Option Unshaped) (unshaped : Unshaped) → TellsChange it found → found ≡ Some unshaped → CarriesOut old it (answer.NotShaped unshaped) old
 lack_answered old it found unshaped told is =
     let there = subst (λ (o : Option Unshaped). TellsChange it o) is told in
     inr (record { lacks = there.0; unshaped = unshaped; is_first = there.1; told_is = refl; same = refl })

@@ -1,18 +1,18 @@
 -- From a text to what comes out.
 use Rattle.std.proofs.Common.{◌≡◌, ℕ, List, Ok, Err, inl, inr, subst}
 use Rattle.wit_resolve_graph.specs.State.{State}
-use Rattle.wit_json_reading.specs.Documents.{reading_of}
+use Rattle.wit_json_reading.specs.Documents.{read_from}
 use Rattle.wit_json_reading.specs.Reading.{Reads}
 use Rattle.wit_json_reading.specs.declared.fault.ReadError.{ReadError}
 use Rattle.wit_json_reading.specs.declared.fault.ReadError.TheVariants as error
-use Rattle.wit_json_commands.specs.Orders.{document_of}
+use Rattle.wit_json_commands.specs.Orders.{read_document}
 use Rattle.wit_json_commands.specs.declared.commands.orders.Document.{Document}
 use Rattle.wit_json_commands.specs.Documents.{Understands}
 use Rattle.wit_json_commands.specs.Runs.{RespondsEach}
 use Rattle.wit_json_commands.specs.steps.Outcomes.{Begins, TellsFaultOf, WritesOutput}
 
 -- a document is read, begins with a valid graph, and its commands are carried out
-pub understood : (input text : List ℕ) (document : Document) (state : State) → reading_of document_of input ≡ Ok document → Begins document.resolve (Ok state)
+pub understood : (input text : List ℕ) (document : Document) (state : State) → read_from read_document input ≡ Ok document → Begins document.resolve (Ok state)
     → WritesOutput state document.commands text → Understands input text
 understood input text document state reads begins writes = record {
   document = document;
@@ -27,11 +27,11 @@ understood input text document state reads begins writes = record {
 }
 
 -- it can't be read
-pub read_faults : (input : List ℕ) (e : ReadError) → Reads {A = Document} (Err e) (reading_of document_of input) → TellsFaultOf input e
+pub read_faults : (input : List ℕ) (e : ReadError) → Reads {A = Document} (Err e) (read_from read_document input) → TellsFaultOf input e
 read_faults input (error.Fault fault) reads = inl reads
 read_faults input error.OutOfMemory reads = tt
 
 -- it begins with a graph that isn't valid
-pub begin_faults : (input : List ℕ) (document : Document) (e : ReadError) → reading_of document_of input ≡ Ok document → Begins document.resolve (Err e) → TellsFaultOf input e
+pub begin_faults : (input : List ℕ) (document : Document) (e : ReadError) → read_from read_document input ≡ Ok document → Begins document.resolve (Err e) → TellsFaultOf input e
 begin_faults input document (error.Fault fault) reads begins = inr (record { document = document; reads = reads; invalid = begins.0; fault_is = begins.1 })
 begin_faults input document error.OutOfMemory reads begins = tt

@@ -13,7 +13,7 @@ use Rattle.wit_graph_data.specs.Named.{interface_in, package_named}
 use Rattle.wit_graph_data.specs.declared.graph.Graph.{Graph}
 use Rattle.wit_graph_data.specs.declared.graph.Package.{Package}
 use Rattle.wit_graph_theory.specs.facts.ListFacts.{found_at, place_of}
-use Rattle.wit_json_commands.specs.Tells.{interface_named}
+use Rattle.wit_json_commands.specs.Tells.{interface_id_named}
 
 -- the package of a name
 pub package_within : (g : Graph) → IsValid g → (name : PackageName) (p : ℕ) → package_named g name ≡ Some p → p < length g.packages
@@ -31,6 +31,6 @@ interface_in_within g valid name p i inside =
     slice_get_within g.interfaces i there.0 there.1)
 
 -- the interface of a name in the package of a name
-pub interface_within : (g : Graph) → IsValid g → (home : PackageName) (name : List ℕ) (i : ℕ) → interface_named g home name ≡ Some i → i < length g.interfaces
+pub interface_within : (g : Graph) → IsValid g → (home : PackageName) (name : List ℕ) (i : ℕ) → interface_id_named g home name ≡ Some i → i < length g.interfaces
 interface_within g valid home name i is =
     option_and_then_some (interface_in g name) (package_named g home) i is (λ p named inside. interface_in_within g valid name p i inside)

@@ -18,11 +18,11 @@ use Rattle.wit_json_commands.specs.declared.replies.core_names.CoreExport.{CoreE
 use Rattle.wit_json_commands.specs.declared.replies.core_names.CoreImport.{CoreImport}
 use Rattle.wit_json_commands.specs.declared.replies.core_names.CoreNames.{CoreNames}
 
-abbrev pub mangling_of : Mangling → ManglingAndAbi
-mangling_of asked.Standard32 = Standard32
-mangling_of asked.LegacySync = Legacy Sync
-mangling_of asked.LegacyAsyncCallback = Legacy AsyncCallback
-mangling_of asked.LegacyAsyncStackful = Legacy AsyncStackful
+abbrev pub mangling_and_abi : Mangling → ManglingAndAbi
+mangling_and_abi asked.Standard32 = Standard32
+mangling_and_abi asked.LegacySync = Legacy Sync
+mangling_and_abi asked.LegacyAsyncCallback = Legacy AsyncCallback
+mangling_and_abi asked.LegacyAsyncStackful = Legacy AsyncStackful
 
 -- a function of a world, and the key of the interface that it stands in
 abbrev pub PlacedFunction : Type 0

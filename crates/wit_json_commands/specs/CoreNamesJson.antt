@@ -19,7 +19,8 @@ interface_member interface = member (codes "interface") (null_or json_of_key int
 abbrev pub json_of_core_import : CoreImport → Json
 json_of_core_import it =
     object (interface_member it.interface ++ member (codes "function") (json_of_text it.function)
-    ++ member (codes "module") (json_of_text it.module) ++ member (codes "field") (json_of_text it.field))
+    ++ member (codes "module") (json_of_text it.module) ++ member (codes "field")
+    (json_of_text it.field))
 
 abbrev pub json_of_core_export : CoreExport → Json
 json_of_core_export it =

@@ -4,11 +4,11 @@ use Rattle.wit_elaboration.specs.Valid.{IsValid}
 use Rattle.wit_resolve_graph.specs.State.{State, new_state}
 use Rattle.wit_json.specs.Graph.{compact}
 use Rattle.wit_json_graphs.specs.declared.resolves.ResolveParts.{ResolveParts}
-use Rattle.wit_json_reading.specs.Documents.{reading_of}
+use Rattle.wit_json_reading.specs.Documents.{read_from}
 use Rattle.wit_json_reading.specs.declared.fault.Expected.TheVariants as expected
 use Rattle.wit_json_reading.specs.declared.fault.Fault.{Fault}
 use Rattle.wit_json_reading.specs.declared.fault.Step.TheVariants as step
-use Rattle.wit_json_commands.specs.Orders.{document_of}
+use Rattle.wit_json_commands.specs.Orders.{read_document}
 use Rattle.wit_json_commands.specs.declared.commands.orders.Document.{Document}
 use Rattle.wit_json_commands.specs.Output.{json_of_fault, json_of_output}
 use Rattle.wit_json_commands.specs.declared.replies.answers.Response.{Response}
@@ -46,7 +46,7 @@ pub record Outputs (document : Document) (text : List ℕ) : Type 0 where
 -- a document is read, begins with a valid graph, and this comes out
 pub record Understands (input text : List ℕ) : Type 0 where
   pub document : Document
-  pub reads : reading_of document_of input ≡ Ok document
+  pub reads : read_from read_document input ≡ Ok document
   pub valid : BeginsValid document.resolve
   pub outputs : Outputs document text
 
@@ -61,13 +61,13 @@ invalid_fault =
 -- a document begins with a graph that isn't valid
 pub record BeginsInvalid (input : List ℕ) (fault : Fault) : Type 0 where
   pub document : Document
-  pub reads : reading_of document_of input ≡ Ok document
+  pub reads : read_from read_document input ≡ Ok document
   pub invalid : BeginsValid document.resolve → ⊥
   pub fault_is : fault ≡ invalid_fault
 
 -- the first fault of a document that can't be read, or that of one which begins with a graph that isn't valid
 abbrev pub IsFaultOf : List ℕ → Fault → Type 0
-IsFaultOf input fault = (reading_of document_of input ≡ Err fault) ⊎ BeginsInvalid input fault
+IsFaultOf input fault = (read_from read_document input ≡ Err fault) ⊎ BeginsInvalid input fault
 
 -- the fault comes out, with a place in the text
 pub record TellsFault (input text : List ℕ) : Type 0 where

@@ -3,12 +3,12 @@ use Rattle.std.specs.Prelude.{ℕ, Bool, List, [], ◌∷◌, Ok, codes, if◌th
 use Rattle.std.specs.List.{list_any}
 use Rattle.json.specs.Json.{Json}
 use Rattle.json.specs.Json as json
-use Rattle.wit_json_graphs.specs.Resolves.{resolve_of}
-use Rattle.wit_json_reading.specs.Objects.{variant_of}
-use Rattle.wit_json_reading.specs.Reading.{Reading, ◌>>=◌, instead_of, list_of, only, optional, required}
+use Rattle.wit_json_graphs.specs.Resolves.{read_resolve}
+use Rattle.wit_json_reading.specs.Objects.{read_variant}
+use Rattle.wit_json_reading.specs.Reading.{Reading, ◌>>=◌, instead_of, read_list, only, read_optional, read_required}
 use Rattle.wit_json_reading.specs.declared.fault.Expected.TheVariants as expected
-use Rattle.wit_json_commands.specs.Changes.{change_by}
-use Rattle.wit_json_commands.specs.Questions.{question_by}
+use Rattle.wit_json_commands.specs.Changes.{read_change_by}
+use Rattle.wit_json_commands.specs.Questions.{read_question_by}
 use Rattle.wit_json_commands.specs.declared.commands.orders.Document.{Document}
 use Rattle.wit_json_commands.specs.declared.commands.orders.Order.{Order}
 use Rattle.wit_json_commands.specs.declared.commands.orders.Order.TheVariants as order
@@ -24,36 +24,37 @@ is_change name =
     ∷ codes "push-groups" ∷ codes "importize" ∷ codes "exportize" ∷ codes "semver" ∷ [])
 
 -- the change or the question of a name
-abbrev pub request_by : List ℕ → Json → Reading Request
-request_by name j =
-    if is_change name then (change_by name j >>= λ it. Ok (request.Change it))
-    else (question_by name j >>= λ it. Ok (request.Ask it))
+abbrev pub read_request_by : List ℕ → Json → Reading Request
+read_request_by name j =
+    if is_change name then (read_change_by name j >>= λ it. Ok (request.Change it))
+    else (read_question_by name j >>= λ it. Ok (request.Ask it))
 
 -- a request without parts
-abbrev pub plain_request_of : List ℕ → Reading Request
-plain_request_of word =
+abbrev pub read_plain_request : List ℕ → Reading Request
+read_plain_request word =
     if bytes_eq word (codes "package-order") then Ok (request.Ask PackageOrder)
     else instead_of expected.Command
 
 -- a change or a question
-unfoldable pub request_of : Json → Reading Request
-request_of (json.string word) = plain_request_of word
-request_of j = variant_of request_by expected.Command j
+unfoldable pub read_request : Json → Reading Request
+read_request (json.string word) = read_plain_request word
+read_request j = read_variant read_request_by expected.Command j
 
-abbrev pub order_by : List ℕ → Json → Reading Order
-order_by name j =
-    if bytes_eq name (codes "merge") then (list_of request_of j >>= λ requests. Ok (order.Merge requests))
-    else (request_by name j >>= λ it. Ok (order.Request it))
+abbrev pub read_order_by : List ℕ → Json → Reading Order
+read_order_by name j =
+    if bytes_eq name (codes "merge")
+    then (read_list read_request j >>= λ requests. Ok (order.Merge requests))
+    else (read_request_by name j >>= λ it. Ok (order.Request it))
 
 -- a change, a question, or a merge
-unfoldable pub order_of : Json → Reading Order
-order_of (json.string word) = plain_request_of word >>= λ it. Ok (order.Request it)
-order_of j = variant_of order_by expected.Command j
+unfoldable pub read_order : Json → Reading Order
+read_order (json.string word) = read_plain_request word >>= λ it. Ok (order.Request it)
+read_order j = read_variant read_order_by expected.Command j
 
 -- `{"resolve": .., "commands": [..]}`; the graph with which a document begins may be left out
-unfoldable pub document_of : Json → Reading Document
-document_of j = do
+unfoldable pub read_document : Json → Reading Document
+read_document j = do
   _ ← only (codes "resolve" ∷ codes "commands" ∷ []) j
-  resolve ← optional resolve_of (codes "resolve") j
-  commands ← required (list_of order_of) (codes "commands") j
+  resolve ← read_optional read_resolve (codes "resolve") j
+  commands ← read_required (read_list read_order) (codes "commands") j
   Ok (record { resolve = resolve; commands = commands })

@@ -1,10 +1,10 @@
 -- What questions about a graph are read from.
 use Rattle.std.specs.Prelude.{ℕ, List, [], ◌∷◌, Ok, codes, if◌then◌else◌, bytes_eq}
 use Rattle.json.specs.Json.{Json}
-use Rattle.wit_json_reading.specs.Objects.{alone, variant_of}
-use Rattle.wit_json_reading.specs.Packages.{package_name_of}
-use Rattle.wit_json_reading.specs.Reading.{Reading, ◌>>=◌, instead_of, list_of, only, optional, required}
-use Rattle.wit_json_reading.specs.Values.{text_of}
+use Rattle.wit_json_reading.specs.Objects.{alone, read_variant}
+use Rattle.wit_json_reading.specs.Packages.{read_package_name}
+use Rattle.wit_json_reading.specs.Reading.{Reading, ◌>>=◌, instead_of, read_list, only, read_optional, read_required}
+use Rattle.wit_json_reading.specs.Values.{read_text}
 use Rattle.wit_json_reading.specs.declared.fault.Expected.TheVariants as expected
 use Rattle.wit_json_commands.specs.declared.commands.questions.FunctionPlace.{FunctionPlace}
 use Rattle.wit_json_commands.specs.declared.commands.questions.FunctionSite.{FunctionSite}
@@ -14,25 +14,25 @@ use Rattle.wit_json_commands.specs.declared.commands.questions.Mangling.TheVaria
 use Rattle.wit_json_commands.specs.declared.commands.questions.Question.{Question}
 use Rattle.wit_json_commands.specs.declared.commands.questions.Question.TheVariants as question
 
-unfoldable pub select_of : Json → Reading Question
-select_of j = do
+unfoldable pub read_select : Json → Reading Question
+read_select j = do
   _ ← only (codes "packages" ∷ codes "world" ∷ []) j
-  packages ← required (list_of package_name_of) (codes "packages") j
-  world ← optional text_of (codes "world") j
+  packages ← read_required (read_list read_package_name) (codes "packages") j
+  world ← read_optional read_text (codes "world") j
   Ok (question.Select packages world)
 
-unfoldable pub interface_of : Json → Reading Question
-interface_of j = do
+unfoldable pub read_interface_question : Json → Reading Question
+read_interface_question j = do
   _ ← only (codes "package" ∷ codes "interface" ∷ []) j
-  home ← required package_name_of (codes "package") j
-  interface ← required text_of (codes "interface") j
+  home ← read_required read_package_name (codes "package") j
+  interface ← read_required read_text (codes "interface") j
   Ok (question.InterfaceDependencies home interface)
 
-unfoldable pub canonical_id_of : Json → Reading Question
-canonical_id_of j = do
+unfoldable pub read_canonical_id : Json → Reading Question
+read_canonical_id j = do
   _ ← only (codes "package" ∷ codes "name" ∷ []) j
-  home ← required package_name_of (codes "package") j
-  name ← required text_of (codes "name") j
+  home ← read_required read_package_name (codes "package") j
+  name ← read_required read_text (codes "name") j
   Ok (question.CanonicalId home name)
 
 -- ---- names of core wasm
@@ -46,45 +46,48 @@ mangling_in word =
     else instead_of expected.Mangling
 
 -- a mangling by its name
-unfoldable pub mangling_of : Json → Reading Mangling
-mangling_of j = text_of j >>= λ word. mangling_in word
+unfoldable pub read_mangling : Json → Reading Mangling
+read_mangling j = read_text j >>= λ word. mangling_in word
 
-unfoldable pub core_names_of : Json → Reading Question
-core_names_of j = do
+unfoldable pub read_core_names : Json → Reading Question
+read_core_names j = do
   _ ← only (codes "package" ∷ codes "world" ∷ codes "mangling" ∷ []) j
-  home ← required package_name_of (codes "package") j
-  world ← required text_of (codes "world") j
-  mangling ← required mangling_of (codes "mangling") j
+  home ← read_required read_package_name (codes "package") j
+  world ← read_required read_text (codes "world") j
+  mangling ← read_required read_mangling (codes "mangling") j
   Ok (question.CoreNames home world mangling)
 
 -- ---- functions
 
-unfoldable pub place_of : FunctionSite → Json → Reading FunctionPlace
-place_of site j = do
+unfoldable pub read_place_in : FunctionSite → Json → Reading FunctionPlace
+read_place_in site j = do
   _ ← only (codes "package" ∷ codes "name" ∷ codes "function" ∷ []) j
-  home ← required package_name_of (codes "package") j
-  name ← required text_of (codes "name") j
-  function ← required text_of (codes "function") j
+  home ← read_required read_package_name (codes "package") j
+  name ← read_required read_text (codes "name") j
+  function ← read_required read_text (codes "function") j
   Ok (record { site = site; «package» = home; name = name; function = function })
 
-abbrev pub function_by : List ℕ → Json → Reading FunctionPlace
-function_by name j =
-    if bytes_eq name (codes "interface") then place_of site.Interface j
-    else if bytes_eq name (codes "import") then place_of site.Import j
-    else if bytes_eq name (codes "export") then place_of site.Export j
+abbrev pub read_function_place_by : List ℕ → Json → Reading FunctionPlace
+read_function_place_by name j =
+    if bytes_eq name (codes "interface") then read_place_in site.Interface j
+    else if bytes_eq name (codes "import") then read_place_in site.Import j
+    else if bytes_eq name (codes "export") then read_place_in site.Export j
     else instead_of expected.FunctionPlace
 
 -- a function of an interface or a world
-unfoldable pub function_of : Json → Reading FunctionPlace
-function_of j = variant_of function_by expected.FunctionPlace j
+unfoldable pub read_function_place : Json → Reading FunctionPlace
+read_function_place j = read_variant read_function_place_by expected.FunctionPlace j
 
 -- the question of a name
-unfoldable pub question_by : List ℕ → Json → Reading Question
-question_by name j =
-    if bytes_eq name (codes "select") then select_of j
-    else if bytes_eq name (codes "package-dependencies") then (alone package_name_of (codes "package") j >>= λ home. Ok (question.PackageDependencies home))
-    else if bytes_eq name (codes "interface-dependencies") then interface_of j
-    else if bytes_eq name (codes "canonical-id") then canonical_id_of j
-    else if bytes_eq name (codes "core-names") then core_names_of j
-    else if bytes_eq name (codes "futures-and-streams") then (function_of j >>= λ place. Ok (question.FuturesAndStreams place))
+unfoldable pub read_question_by : List ℕ → Json → Reading Question
+read_question_by name j =
+    if bytes_eq name (codes "select") then read_select j
+    else if bytes_eq name (codes "package-dependencies")
+    then (alone read_package_name (codes "package") j
+    >>= λ home. Ok (question.PackageDependencies home))
+    else if bytes_eq name (codes "interface-dependencies") then read_interface_question j
+    else if bytes_eq name (codes "canonical-id") then read_canonical_id j
+    else if bytes_eq name (codes "core-names") then read_core_names j
+    else if bytes_eq name (codes "futures-and-streams")
+    then (read_function_place j >>= λ place. Ok (question.FuturesAndStreams place))
     else instead_of expected.Command

@@ -17,23 +17,23 @@ use Rattle.wit_json_commands.specs.declared.replies.answers.Answer.{Answer}
 use Rattle.wit_json_commands.specs.declared.replies.answers.Answer.TheVariants as answer
 
 -- where a span begins, on lines of their own; nothing where it is unknown or in no file
-abbrev pub place_text : List SourceFile → OptionalSpan → List ℕ
-place_text files span = option_map_or (λ shown. codes "\n" ++ shown) (shown_span files span) []
+abbrev pub place_lines : List SourceFile → OptionalSpan → List ℕ
+place_lines files span = option_map_or (λ shown. codes "\n" ++ shown) (shown_span files span) []
 
 -- where an error is; of a package that is defined twice both places, the other one by the graph where the error has none
-abbrev pub places_text : Graph → List SourceFile → ResolveErrorKind → List ℕ
-places_text g files (DuplicatePackage name span1 span2) =
-    place_text files span1 ++ place_text files (first_known (span2 ∷ package_span g name ∷ []))
-places_text g files kind = place_text files (error_span kind)
+abbrev pub lines_of_places : Graph → List SourceFile → ResolveErrorKind → List ℕ
+lines_of_places g files (DuplicatePackage name span1 span2) =
+    place_lines files span1 ++ place_lines files (first_known (span2 ∷ package_span g name ∷ []))
+lines_of_places g files kind = place_lines files (error_span kind)
 
 -- the line of a step of a way
 abbrev pub arrow_text : List SourceFile → Arrow → List ℕ
-arrow_text files a = place_text files a.span
+arrow_text files a = place_lines files a.span
 
 -- on a line of its own `way: A -> B -> .. -> C`, and the line of each step
-abbrev pub way_text : List SourceFile → List Arrow → List ℕ
-way_text files [] = []
-way_text files (a ∷ way) =
+abbrev pub way_lines : List SourceFile → List Arrow → List ℕ
+way_lines files [] = []
+way_lines files (a ∷ way) =
     codes "\n      = way: " ++ (way_names (a ∷ way) ++ flat_map (arrow_text files) (a ∷ way))
 
 -- on lines of their own what was asked, and which document says more of the number
@@ -46,8 +46,8 @@ asked_text asked number =
 abbrev pub rendered : Graph → Sources → List ℕ → List Arrow → ResolveErrorKind → List ℕ
 rendered g files asked way error =
     kind_text error
-    ++ (places_text g files.files error
-    ++ (way_text files.files way ++ asked_text asked (error_number error)))
+    ++ (lines_of_places g files.files error
+    ++ (way_lines files.files way ++ asked_text asked (error_number error)))
 
 -- the refusal of what was asked of a graph, told by these files
 abbrev pub refused : Graph → Sources → List ℕ → List Arrow → ResolveErrorKind → Answer

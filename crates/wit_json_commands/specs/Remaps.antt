@@ -7,5 +7,7 @@ use Rattle.wit_remap.specs.declared.remap.Remap.{Remap}
 -- at each index of a list of the other graph the id in this one, or `null`
 abbrev pub json_of_remap : Remap → Json
 json_of_remap remap =
-    object (member (codes "types") (list_of (null_or json_of_number) remap.types) ++ member (codes "interfaces") (list_of (null_or json_of_number) remap.interfaces)
-    ++ member (codes "worlds") (list_of (null_or json_of_number) remap.worlds) ++ member (codes "packages") (list_of json_of_number remap.packages))
+    object (member (codes "types") (list_of (null_or json_of_number) remap.types)
+    ++ member (codes "interfaces") (list_of (null_or json_of_number) remap.interfaces)
+    ++ member (codes "worlds") (list_of (null_or json_of_number) remap.worlds)
+    ++ member (codes "packages") (list_of json_of_number remap.packages))

@@ -38,7 +38,8 @@ AnswersReply state asked brought (reply.Refused error) told =
     × (told ≡ refused state.graph state.source_map asked way error)
 
 -- a command is carried out, which in words is this, and its reply is answered
-pub record AnswersCommand (asked : List ℕ) (old : State) (it : Command) (told : Answer) (new : State) : Type 0 where
+pub record CarriesOutCommand (asked : List ℕ) (old : State) (it : Command) (told : Answer)
+    (new : State) : Type 0 where
   pub reply : Reply
   pub step : Step old it reply new
   pub answers : AnswersReply new asked (asked_of old it) reply told
@@ -48,7 +49,7 @@ pub record AnswersCommand (asked : List ℕ) (old : State) (it : Command) (told 
 -- a change whose groups have their shape is carried out
 pub record AnswersShaped (old : State) (it : Change) (told : Answer) (new : State) : Type 0 where
   pub shaped : IsChangeShaped it
-  pub answered : AnswersCommand (change_text it) old (command_of it) told new
+  pub answered : CarriesOutCommand (change_text it) old (command_of it) told new
 
 -- of another one the first package is told that lacks its shape, with what it lacks, and nothing has changed
 pub record TellsShape (old : State) (it : Change) (told : Answer) (new : State) : Type 0 where
@@ -58,32 +59,33 @@ pub record TellsShape (old : State) (it : Change) (told : Answer) (new : State) 
   pub told_is : told ≡ answer.NotShaped unshaped
   pub same : new ≡ old
 
-abbrev pub AnswersChange : State → Change → Answer → State → Type 0
-AnswersChange old it told new = AnswersShaped old it told new ⊎ TellsShape old it told new
+abbrev pub CarriesOut : State → Change → Answer → State → Type 0
+CarriesOut old it told new = AnswersShaped old it told new ⊎ TellsShape old it told new
 
 -- ---- requests and orders
 
 -- a change is carried out; a question changes nothing
-abbrev pub Answers : State → Request → Answer → State → Type 0
-Answers old (request.Change it) told new = AnswersChange old it told new
-Answers old (request.Ask it) told new =
+abbrev pub AnswersRequest : State → Request → Answer → State → Type 0
+AnswersRequest old (request.Change it) told new = CarriesOut old it told new
+AnswersRequest old (request.Ask it) told new =
     AnswersQuestion old.graph old.source_map it told × (new ≡ old)
 
 -- one after another, with one answer to each
 abbrev pub AnswersEach : State → List Request → List Answer → State → Type 0
 AnswersEach old [] [] new = new ≡ old
 AnswersEach old (it ∷ its) (told ∷ answers) new =
-    (mid : State) × Answers old it told mid × AnswersEach mid its answers new
+    (mid : State) × AnswersRequest old it told mid × AnswersEach mid its answers new
 AnswersEach old _ _ new = ⊥
 
 -- requests are carried out on an empty graph, which is merged into this one
-pub record MergesOther (old : State) (its : List Request) (answers : List Answer) (told : Answer) (new : State) : Type 0 where
+pub record MergesOther (old : State) (its : List Request) (answers : List Answer) (told : Answer)
+    (new : State) : Type 0 where
   pub other : State
   pub made : AnswersEach new_state its answers other
-  pub merged : AnswersCommand (codes "merge") old (command.Merge other) told new
+  pub merged : CarriesOutCommand (codes "merge") old (command.Merge other) told new
 
 abbrev pub Responds : State → Order → Response → State → Type 0
-Responds old (order.Request it) (response.Answer told) new = Answers old it told new
+Responds old (order.Request it) (response.Answer told) new = AnswersRequest old it told new
 Responds old (order.Merge its) (response.Merge answers told) new =
     MergesOther old its answers told new
 Responds old _ _ new = ⊥

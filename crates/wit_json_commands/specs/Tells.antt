@@ -1,6 +1,7 @@
 -- What is answered to questions about a graph.
 use Rattle.std.specs.Prelude.{◌≡◌, ◌⊎◌, ℕ, List, [], ◌∷◌, Option, None, Some, Ok, option_and_then, slice_get, codes, bytes_eq, if◌then◌else◌}
 use Rattle.std.specs.Map.{lookup}
+use Rattle.std.specs.Option.{option_or}
 use Rattle.wit_names.specs.declared.package_name.PackageName.{PackageName}
 use Rattle.wit_sources.specs.SourceMap.{Sources}
 use Rattle.wit_data.specs.declared.function.Function.{Function}
@@ -25,7 +26,7 @@ use Rattle.wit_json_commands.specs.declared.commands.questions.Question.TheVaria
 use Rattle.wit_json_commands.specs.Refusals.{refused}
 use Rattle.wit_json_commands.specs.declared.replies.answers.Answer.{Answer}
 use Rattle.wit_json_commands.specs.declared.replies.answers.Answer.TheVariants as answer
-use Rattle.wit_json_commands.specs.CoreNames.{core_names_of, mangling_of}
+use Rattle.wit_json_commands.specs.CoreNames.{core_names_of, mangling_and_abi}
 
 -- what is answered of what is there
 abbrev pub found : {A : Type 0} → (A → Answer) → Option A → Answer
@@ -44,34 +45,34 @@ packages_named g [] = Some []
 packages_named g (name ∷ names) = with_package (package_named g name) (packages_named g names)
 
 -- the world that a text names among main packages, or an error that says why there is none
-abbrev pub TellsChoice : Graph → Sources → List ℕ → Option (List ℕ) → Answer → Type 0
-TellsChoice g files mains text (answer.World id) = selected_world g mains text ≡ Ok id
-TellsChoice g files mains text (answer.Refused refusal) =
+abbrev pub TellsSelected : Graph → Sources → List ℕ → Option (List ℕ) → Answer → Type 0
+TellsSelected g files mains text (answer.World id) = selected_world g mains text ≡ Ok id
+TellsSelected g files mains text (answer.Refused refusal) =
     IsSelectionError (selected_world g mains text) refusal.error
     × (answer.Refused refusal ≡ refused g files (codes "select") [] refusal.error)
-TellsChoice g files mains text _ = ⊥
+TellsSelected g files mains text _ = ⊥
 
 abbrev pub TellsAmong : Graph → Sources → Option (List ℕ) → Option (List ℕ) → Answer → Type 0
 TellsAmong g files None text told = told ≡ answer.NotFound
-TellsAmong g files (Some mains) text told = TellsChoice g files mains text told
+TellsAmong g files (Some mains) text told = TellsSelected g files mains text told
 
 abbrev pub TellsSelect : Graph → Sources → List PackageName → Option (List ℕ) → Answer → Type 0
 TellsSelect g files names text told = TellsAmong g files (packages_named g names) text told
 
 -- ---- dependencies
 
-abbrev pub interface_named : Graph → PackageName → List ℕ → Option ℕ
-interface_named g home name = option_and_then (interface_in g name) (package_named g home)
+abbrev pub interface_id_named : Graph → PackageName → List ℕ → Option ℕ
+interface_id_named g home name = option_and_then (interface_in g name) (package_named g home)
 
-abbrev pub package_dependencies : Graph → PackageName → Answer
-package_dependencies g name =
+abbrev pub package_dependencies_answer : Graph → PackageName → Answer
+package_dependencies_answer g name =
     found (λ p. answer.Packages (package_direct_deps g.types g.interfaces g.worlds g.packages p))
     (package_named g name)
 
 abbrev pub interface_dependencies : Graph → PackageName → List ℕ → Answer
 interface_dependencies g home name =
     found (λ i. answer.Interfaces (interface_direct_deps g.types g.interfaces i))
-    (interface_named g home name)
+    (interface_id_named g home name)
 
 abbrev pub package_order : Graph → Answer
 package_order g = answer.Packages (topological_packages g.types g.interfaces g.worlds g.packages)
@@ -84,7 +85,7 @@ canonical_id g home name =
 
 abbrev pub core_names : Graph → PackageName → List ℕ → Mangling → Answer
 core_names g home world mangling =
-    found (λ it. answer.CoreNames (core_names_of g (mangling_of mangling) it))
+    found (λ it. answer.CoreNames (core_names_of g (mangling_and_abi mangling) it))
     (option_and_then (slice_get g.worlds) (world_named g home world))
 
 -- ---- functions
@@ -94,55 +95,55 @@ abbrev pub entry_function : List ℕ → WorldKey × WorldItem → Option Functi
 entry_function label (key.Name name, item.Function f) = if bytes_eq name label then Some f else None
 entry_function label _ = None
 
-abbrev pub or_else : Option Function → Option Function → Option Function
-or_else (Some f) other = Some f
-or_else None other = other
-
 -- the first function under a label
 abbrev pub function_under : List ℕ → List (WorldKey × WorldItem) → Option Function
 function_under label [] = None
-function_under label (e ∷ es) = or_else (entry_function label e) (function_under label es)
+function_under label (e ∷ es) = option_or (entry_function label e) (function_under label es)
 
 abbrev pub interface_function : Graph → PackageName → List ℕ → List ℕ → Option Function
 interface_function g home name f =
     option_and_then (λ (interface : Interface). lookup (bytes_eq f) interface.functions)
-    (option_and_then (slice_get g.interfaces) (interface_named g home name))
+    (option_and_then (slice_get g.interfaces) (interface_id_named g home name))
 
 abbrev pub import_function : Graph → PackageName → List ℕ → List ℕ → Option Function
-import_function g home name f = option_and_then (λ (world : World). function_under f world.imports) (option_and_then (slice_get g.worlds) (world_named g home name))
+import_function g home name f =
+    option_and_then (λ (world : World). function_under f world.imports)
+    (option_and_then (slice_get g.worlds) (world_named g home name))
 
 abbrev pub export_function : Graph → PackageName → List ℕ → List ℕ → Option Function
 export_function g home name f =
     option_and_then (λ (world : World). function_under f world.exports)
     (option_and_then (slice_get g.worlds) (world_named g home name))
 
-abbrev pub function_by : FunctionSite → Graph → PackageName → List ℕ → List ℕ → Option Function
-function_by site.Interface = interface_function
-function_by site.Import = import_function
-function_by site.Export = export_function
+abbrev pub function_in : FunctionSite → Graph → PackageName → List ℕ → List ℕ → Option Function
+function_in site.Interface = interface_function
+function_in site.Import = import_function
+function_in site.Export = export_function
 
 abbrev pub function_at : Graph → FunctionPlace → Option Function
-function_at g place = function_by place.site g place.«package» place.name place.function
+function_at g place = function_in place.site g place.«package» place.name place.function
 
-abbrev pub futures_and_streams : Graph → FunctionPlace → Answer
-futures_and_streams g place =
+abbrev pub futures_and_streams_answer : Graph → FunctionPlace → Answer
+futures_and_streams_answer g place =
     found (λ f. answer.Types (function_futures g.types f)) (function_at g place)
 
 -- ---- all questions
 
 -- this is what a question asks about a graph whose spans stand in these files
-abbrev pub Tells : Graph → Sources → Question → Answer → Type 0
-Tells g files (question.Select names text) told = TellsSelect g files names text told
-Tells g files (question.PackageDependencies home) told = told ≡ package_dependencies g home
-Tells g files (question.InterfaceDependencies home name) told =
+abbrev pub TellsAnswer : Graph → Sources → Question → Answer → Type 0
+TellsAnswer g files (question.Select names text) told = TellsSelect g files names text told
+TellsAnswer g files (question.PackageDependencies home) told =
+    told ≡ package_dependencies_answer g home
+TellsAnswer g files (question.InterfaceDependencies home name) told =
     told ≡ interface_dependencies g home name
-Tells g files question.PackageOrder told = told ≡ package_order g
-Tells g files (question.CanonicalId home name) told = told ≡ canonical_id g home name
-Tells g files (question.CoreNames home world mangling) told =
+TellsAnswer g files question.PackageOrder told = told ≡ package_order g
+TellsAnswer g files (question.CanonicalId home name) told = told ≡ canonical_id g home name
+TellsAnswer g files (question.CoreNames home world mangling) told =
     told ≡ core_names g home world mangling
-Tells g files (question.FuturesAndStreams place) told = told ≡ futures_and_streams g place
+TellsAnswer g files (question.FuturesAndStreams place) told =
+    told ≡ futures_and_streams_answer g place
 
 -- this may be answered: what is asked, or the refusal of memory for it
 abbrev pub AnswersQuestion : Graph → Sources → Question → Answer → Type 0
 AnswersQuestion g files it told =
-    Tells g files it told ⊎ (told ≡ refused g files (question_word it) [] OutOfMemory)
+    TellsAnswer g files it told ⊎ (told ≡ refused g files (question_word it) [] OutOfMemory)

@@ -23,8 +23,8 @@ use Rattle.wit_json.specs.Unresolved.{whole_case, whole_enum_case, whole_field, 
 use Rattle.wit_json.specs.Values as written
 use Rattle.wit_json.specs.Values.{Member, json_of_text, member, null_or, object, optional, tagged}
 use Rattle.wit_json_graphs.specs.Writable.{IsWritableCase, IsWritableField, IsWritableFunction, IsWritableKind, IsWritableParam, IsWritableSpan, IsWritableTypeDef}
-use Rattle.wit_json_reading.specs.Functions.{function_of}
-use Rattle.wit_json_reading.specs.Types.{type_def_of}
+use Rattle.wit_json_reading.specs.Functions.{read_function}
+use Rattle.wit_json_reading.specs.Types.{read_type_def}
 use Rattle.wit_json_graphs.proofs.Functions.{reads_function}
 use Rattle.wit_json_graphs.proofs.Types.{reads_type_def}
 
@@ -159,8 +159,8 @@ type_fits def fits = record {
   span = tt;
 }
 
-pub reads_bare_type : (def : TypeDef) → IsWritableTypeDef def → type_def_of (json_of_type_def def) ≡ Ok (bare_type def)
-reads_bare_type def fits = ap type_def_of (type_is def) ∙ reads_type_def (bare_type def) (type_fits def fits)
+pub reads_bare_type : (def : TypeDef) → IsWritableTypeDef def → read_type_def (json_of_type_def def) ≡ Ok (bare_type def)
+reads_bare_type def fits = ap read_type_def (type_is def) ∙ reads_type_def (bare_type def) (type_fits def fits)
 
 -- ---- functions
 
@@ -194,5 +194,5 @@ function_fits f fits = record {
   span = tt;
 }
 
-pub reads_bare_function : (f : Function) → IsWritableFunction f → function_of (json_of_function f) ≡ Ok (bare_function f)
-reads_bare_function f fits = ap function_of (function_is f) ∙ reads_function (bare_function f) (function_fits f fits)
+pub reads_bare_function : (f : Function) → IsWritableFunction f → read_function (json_of_function f) ≡ Ok (bare_function f)
+reads_bare_function f fits = ap read_function (function_is f) ∙ reads_function (bare_function f) (function_fits f fits)

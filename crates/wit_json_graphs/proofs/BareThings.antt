@@ -1,4 +1,4 @@
--- The layout of interfaces, worlds and packages reads as these without what their details have.
+-- The layout of interfaces, worlds and packages reads as these read_leaving_out what their details have.
 use Rattle.std.proofs.Common.{◌≡◌, ◌∙◌, ℕ, suc, Bool, false, List, [], ◌∷◌, ◌++◌, length, map, Option, Some, None, Ok, refl, sym, ap, subst, codes, if◌then◌else◌, is_some, append-nil, append_assoc}
 use Rattle.std.specs.Map.{lookup}
 use Rattle.std.specs.Option.{option_map}
@@ -28,13 +28,13 @@ use Rattle.wit_json.specs.Unresolved.{whole_entries, whole_function, whole_item}
 use Rattle.wit_json.specs.Values.{Member, json_of_number, json_of_text, member, null_or, object, object_under_names, tagged}
 use Rattle.wit_json.specs.Worlds.{entry_name, json_of_entries, json_of_interface, json_of_item, json_of_world}
 use Rattle.wit_json_graphs.specs.Writable.{AreWritableEntries, FitsKey, IsWritableFunction, IsWritableHome, IsWritableId, IsWritableInterface, IsWritableItem, IsWritableWorld, in_order}
-use Rattle.wit_json_reading.specs.Functions.{function_of}
-use Rattle.wit_json_reading.specs.Graphs.{graph_package_of, homes_from, homes_of, with_home}
-use Rattle.wit_json_reading.specs.Packages.{package_name_of}
-use Rattle.wit_json_reading.specs.Reading.{instead_of, list_of, optional, under, without}
-use Rattle.wit_json_reading.specs.Tables.{named_of}
-use Rattle.wit_json_reading.specs.Values.{nullable, number_of, text_of}
-use Rattle.wit_json_reading.specs.Worlds.{entries_of, include_of, includes_of, interface_names, interface_of, world_names, world_of}
+use Rattle.wit_json_reading.specs.Functions.{read_function}
+use Rattle.wit_json_reading.specs.Graphs.{read_graph_package, homes_from, homes_of, with_home}
+use Rattle.wit_json_reading.specs.Packages.{read_package_name}
+use Rattle.wit_json_reading.specs.Reading.{instead_of, read_list, read_optional, under, read_leaving_out}
+use Rattle.wit_json_reading.specs.Tables.{read_named}
+use Rattle.wit_json_reading.specs.Values.{nullable, read_number, read_text}
+use Rattle.wit_json_reading.specs.Worlds.{read_entries, read_include, read_includes, interface_members, read_interface, world_members, read_world}
 use Rattle.wit_json_reading.specs.declared.fault.Expected.TheVariants as expected
 use Rattle.wit_json_reading.specs.declared.fault.Step.TheVariants as step
 use Rattle.wit_json_graphs.proofs.Bare.{at_value, bare_function, each_of_map, function_fits, function_is, keys_stay, maps_same, no_more, no_two_more}
@@ -55,18 +55,18 @@ abbrev pub bare_interface : Interface → Interface
 bare_interface interface = record interface { functions = bare_functions interface.functions; span = None }
 
 reads_functions : (fs : List (List ℕ × Function)) → HasDistinctKeys fs → Each (λ (e : List ℕ × Function). IsWritableFunction e.1) fs
-    → named_of function_of (object_under_names json_of_function fs) ≡ Ok (bare_functions fs)
+    → read_named read_function (object_under_names json_of_function fs) ≡ Ok (bare_functions fs)
 reads_functions fs distinct fits =
-    ap (λ (ms : List Member). named_of function_of (object ms))
+    ap (λ (ms : List Member). read_named read_function (object ms))
     (maps_same (λ (e : List ℕ × Function). (e.0, json_of_function e.1)) (λ (e : List ℕ × Function). (e.0, whole_function e.1)) (at_value bare_function)
     (λ (e : List ℕ × Function). ap (λ (j : Json). (e.0, j)) (function_is e.1)) fs)
-    ∙ reads_named function_of whole_function (bare_functions fs) (keys_stay bare_function fs distinct)
+    ∙ reads_named read_function whole_function (bare_functions fs) (keys_stay bare_function fs distinct)
     (λ i e at. reads_function e.1 (each_of_map (λ (e : List ℕ × Function). IsWritableFunction e.1) (λ (e : List ℕ × Function). IsWritableFunction e.1) (at_value bare_function)
     (λ (e : List ℕ × Function) (it : IsWritableFunction e.1). function_fits e.1 it) fs fits i e at))
 
 pub reads_bare_interface : (interface : Interface) → IsWritableInterface interface → IfSome interface.«package» IsWritableId
-    → interface_of (json_of_interface interface) ≡ Ok (bare_interface interface)
-unfolding interface_of
+    → read_interface (json_of_interface interface) ≡ Ok (bare_interface interface)
+unfolding read_interface
 reads_bare_interface i fits placed =
     let ss : List Slot =
     (codes "name", Some (null_or json_of_text i.name)) ∷ (codes "types", Some (object_under_names json_of_number i.types))
@@ -76,11 +76,11 @@ reads_bare_interface i fits placed =
     all_8 (λ (_ : Unit {0}) (name : Option (List ℕ)) (types : List (List ℕ × ℕ)) (functions : List (List ℕ × Function)) (docs : Docs) (stability : Stability) (home : Option ℕ)
     (span : Option (ℕ × ℕ)).
     let it : Interface = record { name = name; types = types; functions = functions; docs = docs; stability = stability; «package» = home; span = span } in it)
-    (only_slots interface_names ss refl)
-    (reads_required (nullable text_of) (codes "name") j (null_or json_of_text i.name) i.name (get_slot (codes "name") ss) (reads_name i.name))
-    (reads_required (named_of number_of) (codes "types") j (object_under_names json_of_number i.types) i.types (get_slot (codes "types") ss)
-    (reads_named number_of json_of_number i.types fits.types_differ (λ n e at. reads_number e.1 (fits.types n e at))))
-    (reads_required (named_of function_of) (codes "functions") j (object_under_names json_of_function i.functions) (bare_functions i.functions) (get_slot (codes "functions") ss)
+    (only_slots interface_members ss refl)
+    (reads_required (nullable read_text) (codes "name") j (null_or json_of_text i.name) i.name (get_slot (codes "name") ss) (reads_name i.name))
+    (reads_required (read_named read_number) (codes "types") j (object_under_names json_of_number i.types) i.types (get_slot (codes "types") ss)
+    (reads_named read_number json_of_number i.types fits.types_differ (λ n e at. reads_number e.1 (fits.types n e at))))
+    (reads_required (read_named read_function) (codes "functions") j (object_under_names json_of_function i.functions) (bare_functions i.functions) (get_slot (codes "functions") ss)
     (reads_functions i.functions fits.functions_differ fits.functions))
     (reads_docs i.docs j (get_slot (codes "docs") ss))
     (reads_stability i.stability j fits.gate (get_slot (codes "stability") ss))
@@ -132,22 +132,22 @@ entries_are es =
     ap object (maps_same (λ (e : WorldKey × WorldItem). (entry_name e.0, json_of_item e.1)) (λ (e : WorldKey × WorldItem). (entry_name e.0, whole_item e.1)) (at_value bare_item)
     (λ (e : WorldKey × WorldItem). ap (λ (j : Json). (entry_name e.0, j)) (item_is e.1)) es)
 
-reads_bare_entries : (es : List (WorldKey × WorldItem)) → AreWritableEntries es → entries_of (json_of_entries es) ≡ Ok (bare_entries es)
-reads_bare_entries es fits = ap entries_of (entries_are es) ∙ reads_world_entries (bare_entries es) (entries_fit es fits)
+reads_bare_entries : (es : List (WorldKey × WorldItem)) → AreWritableEntries es → read_entries (json_of_entries es) ≡ Ok (bare_entries es)
+reads_bare_entries es fits = ap read_entries (entries_are es) ∙ reads_world_entries (bare_entries es) (entries_fit es fits)
 
 -- ---- worlds
 
--- a world without what its details have; it includes nothing
+-- a world read_leaving_out what its details have; it includes nothing
 abbrev pub bare_world : World → World
 bare_world world = record world { imports = bare_entries world.imports; exports = bare_entries world.exports; includes = []; span = None }
 
-reads_no_includes : (j : Json) → get (codes "includes") j ≡ None → includes_of j ≡ Ok []
-unfolding includes_of
+reads_no_includes : (j : Json) → get (codes "includes") j ≡ None → read_includes j ≡ Ok []
+unfolding read_includes
 reads_no_includes j there =
-    followed (optional (list_of include_of) (codes "includes") j) _ None (Ok []) (reads_optional (list_of include_of) (λ (is : List WorldInclude). json_of_text []) (codes "includes") j None there tt) refl
+    followed (read_optional (read_list read_include) (codes "includes") j) _ None (Ok []) (reads_optional (read_list read_include) (λ (is : List WorldInclude). json_of_text []) (codes "includes") j None there tt) refl
 
-reads_placed_world : (world : World) → IsWritableWorld world → IfSome world.«package» IsWritableId → world_of (json_of_world world) ≡ Ok (bare_world world)
-unfolding world_of
+reads_placed_world : (world : World) → IsWritableWorld world → IfSome world.«package» IsWritableId → read_world (json_of_world world) ≡ Ok (bare_world world)
+unfolding read_world
 reads_placed_world w fits placed =
     let ss : List Slot =
     (codes "name", Some (json_of_text w.name)) ∷ (codes "imports", Some (json_of_entries w.imports)) ∷ (codes "exports", Some (json_of_entries w.exports))
@@ -156,10 +156,10 @@ reads_placed_world w fits placed =
     all_9 (λ (_ : Unit {0}) (name : List ℕ) (imports exports : List (WorldKey × WorldItem)) (includes : List WorldInclude) (docs : Docs) (stability : Stability) (home : Option ℕ)
     (span : Option (ℕ × ℕ)).
     let it : World = record { name = name; imports = imports; exports = exports; docs = docs; stability = stability; «package» = home; includes = includes; span = span } in it)
-    (only_slots world_names ss refl)
-    (reads_required text_of (codes "name") j (json_of_text w.name) w.name (get_slot (codes "name") ss) refl)
-    (reads_required entries_of (codes "imports") j (json_of_entries w.imports) (bare_entries w.imports) (get_slot (codes "imports") ss) (reads_bare_entries w.imports fits.imports))
-    (reads_required entries_of (codes "exports") j (json_of_entries w.exports) (bare_entries w.exports) (get_slot (codes "exports") ss) (reads_bare_entries w.exports fits.exports))
+    (only_slots world_members ss refl)
+    (reads_required read_text (codes "name") j (json_of_text w.name) w.name (get_slot (codes "name") ss) refl)
+    (reads_required read_entries (codes "imports") j (json_of_entries w.imports) (bare_entries w.imports) (get_slot (codes "imports") ss) (reads_bare_entries w.imports fits.imports))
+    (reads_required read_entries (codes "exports") j (json_of_entries w.exports) (bare_entries w.exports) (get_slot (codes "exports") ss) (reads_bare_entries w.exports fits.exports))
     (reads_no_includes j (get_slot (codes "includes") ss))
     (reads_docs w.docs j (get_slot (codes "docs") ss))
     (reads_stability w.stability j fits.gate (get_slot (codes "stability") ss))
@@ -173,14 +173,14 @@ includes_nothing w =
     ∷ (codes "package", Some (null_or json_of_number w.«package»)) ∷ (codes "docs", json_of_docs w.docs) ∷ (codes "stability", json_of_stability w.stability) ∷ [])
 
 pub reads_bare_world : (world : World) → IsWritableWorld world → IfSome world.«package» IsWritableId
-    → without (codes "includes") world_of (json_of_world world) ≡ Ok (bare_world world)
+    → read_leaving_out (codes "includes") read_world (json_of_world world) ≡ Ok (bare_world world)
 reads_bare_world world fits placed =
-    reads_without world_of (codes "includes") (json_of_world world) (bare_world world) (includes_nothing world) (reads_placed_world world fits placed)
+    reads_without read_world (codes "includes") (json_of_world world) (bare_world world) (includes_nothing world) (reads_placed_world world fits placed)
 
 -- ---- packages
 
-pub reads_home_package : (home : Package) → IsWritableHome home → graph_package_of (json_of_package home) ≡ Ok home
-unfolding graph_package_of
+pub reads_home_package : (home : Package) → IsWritableHome home → read_graph_package (json_of_package home) ≡ Ok home
+unfolding read_graph_package
 reads_home_package p fits =
     let ss : List Slot =
     (codes "name", Some (json_of_package_name p.name)) ∷ (codes "docs", json_of_docs p.docs) ∷ (codes "interfaces", Some (object_under_names json_of_number p.interfaces))
@@ -189,12 +189,12 @@ reads_home_package p fits =
     all_5 (λ (_ : Unit {0}) (name : PackageName) (docs : Docs) (interfaces worlds : List (List ℕ × ℕ)).
     let it : Package = record { name = name; docs = docs; interfaces = interfaces; worlds = worlds } in it)
     (only_slots (codes "name" ∷ codes "docs" ∷ codes "interfaces" ∷ codes "worlds" ∷ []) ss refl)
-    (reads_required package_name_of (codes "name") j (json_of_package_name p.name) p.name (get_slot (codes "name") ss) (reads_name_value p.name fits.name))
+    (reads_required read_package_name (codes "name") j (json_of_package_name p.name) p.name (get_slot (codes "name") ss) (reads_name_value p.name fits.name))
     (reads_docs p.docs j (get_slot (codes "docs") ss))
-    (reads_required (named_of number_of) (codes "interfaces") j (object_under_names json_of_number p.interfaces) p.interfaces (get_slot (codes "interfaces") ss)
-    (reads_named number_of json_of_number p.interfaces fits.interfaces_differ (λ n e at. reads_number e.1 (fits.interfaces n e at))))
-    (reads_required (named_of number_of) (codes "worlds") j (object_under_names json_of_number p.worlds) p.worlds (get_slot (codes "worlds") ss)
-    (reads_named number_of json_of_number p.worlds fits.worlds_differ (λ n e at. reads_number e.1 (fits.worlds n e at))))
+    (reads_required (read_named read_number) (codes "interfaces") j (object_under_names json_of_number p.interfaces) p.interfaces (get_slot (codes "interfaces") ss)
+    (reads_named read_number json_of_number p.interfaces fits.interfaces_differ (λ n e at. reads_number e.1 (fits.interfaces n e at))))
+    (reads_required (read_named read_number) (codes "worlds") j (object_under_names json_of_number p.worlds) p.worlds (get_slot (codes "worlds") ss)
+    (reads_named read_number json_of_number p.worlds fits.worlds_differ (λ n e at. reads_number e.1 (fits.worlds n e at))))
 
 -- ---- the names of packages
 

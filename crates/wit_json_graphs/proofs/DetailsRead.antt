@@ -27,11 +27,11 @@ use Rattle.wit_json.specs.Gates.{json_of_docs}
 use Rattle.wit_json.specs.Values as written
 use Rattle.wit_json.specs.Values.{Member, json_of_text, members_of, object, object_under_names, optional}
 use Rattle.wit_json.specs.Worlds.{entry_name}
-use Rattle.wit_json_graphs.specs.Details.{case_with, entries_with, entry_with, enum_case_with, field_with, flag_with, function_with, interface_with, item_with, items_with, kind_with, list_with, named_with, param_with, span_alone, table_with, things_with, type_with, world_with}
+use Rattle.wit_json_graphs.specs.Details.{case_with, entries_with, entry_with, enum_case_with, field_with, flag_with, function_with_details, interface_with, item_with, items_with, kind_with, list_with, named_with, param_with, span_alone, table_with, things_with, type_with_details, world_with}
 use Rattle.wit_json_graphs.specs.Writable.{AreWritableEntries, IsWritableCase, IsWritableField, IsWritableFunction, IsWritableInterface, IsWritableItem, IsWritableKind, IsWritableParam, IsWritableSpan, IsWritableTypeDef, IsWritableWorld}
-use Rattle.wit_json_reading.specs.Gates.{place_of, span_of}
+use Rattle.wit_json_reading.specs.Gates.{read_place, read_span}
 use Rattle.wit_json_reading.specs.Reading.{Reading, ◌>>=◌, instead_of, only, under}
-use Rattle.wit_json_reading.specs.Values.{text_of}
+use Rattle.wit_json_reading.specs.Values.{read_text}
 use Rattle.wit_json_reading.specs.declared.fault.Expected.TheVariants as expected
 use Rattle.wit_json_reading.specs.declared.fault.Step.TheVariants as step
 use Rattle.wit_json_graphs.proofs.Bare.{at_value, bare_case, bare_enum_case, bare_field, bare_flag, bare_function, bare_kind, bare_param, bare_type, no_more}
@@ -68,19 +68,19 @@ module _ {K A : Type 0} (name : K → List ℕ) (f : A → Json → Reading A) (
 
 field_complete : (f : Field) → IsWritableField f → field_with (bare_field f) (json_of_span f.span) ≡ Ok f
 unfolding field_with
-field_complete f fits = followed (place_of (json_of_span f.span)) _ f.span (Ok f) (reads_span f.span fits.1) refl
+field_complete f fits = followed (read_place (json_of_span f.span)) _ f.span (Ok f) (reads_span f.span fits.1) refl
 
 flag_complete : (f : Flag) → IsWritableSpan f.span → flag_with (bare_flag f) (json_of_span f.span) ≡ Ok f
 unfolding flag_with
-flag_complete f fits = followed (place_of (json_of_span f.span)) _ f.span (Ok f) (reads_span f.span fits) refl
+flag_complete f fits = followed (read_place (json_of_span f.span)) _ f.span (Ok f) (reads_span f.span fits) refl
 
 case_complete : (c : Case) → IsWritableCase c → case_with (bare_case c) (json_of_span c.span) ≡ Ok c
 unfolding case_with
-case_complete c fits = followed (place_of (json_of_span c.span)) _ c.span (Ok c) (reads_span c.span fits.1) refl
+case_complete c fits = followed (read_place (json_of_span c.span)) _ c.span (Ok c) (reads_span c.span fits.1) refl
 
 enum_case_complete : (c : EnumCase) → IsWritableSpan c.span → enum_case_with (bare_enum_case c) (json_of_span c.span) ≡ Ok c
 unfolding enum_case_with
-enum_case_complete c fits = followed (place_of (json_of_span c.span)) _ c.span (Ok c) (reads_span c.span fits) refl
+enum_case_complete c fits = followed (read_place (json_of_span c.span)) _ c.span (Ok c) (reads_span c.span fits) refl
 
 -- the parts of a type that has some
 abbrev parts_slot : TypeDefKind → Option Json
@@ -163,27 +163,27 @@ parts_are kind.Unknown = refl
 details_are : (def : TypeDef) → type_details def ≡ slots (type_slots def.span def.external_id def.kind)
 details_are def = ap (λ (ms : List Member). object (span_member def.span ++ external_id_member def.external_id ++ ms)) (parts_are def.kind)
 
-pub type_complete : (def : TypeDef) → IsWritableTypeDef def → type_with (bare_type def) (type_details def) ≡ Ok def
-unfolding type_with
+pub type_complete : (def : TypeDef) → IsWritableTypeDef def → type_with_details (bare_type def) (type_details def) ≡ Ok def
+unfolding type_with_details
 type_complete def fits =
     let ss = type_slots def.span def.external_id def.kind in
     let j = slots ss in
-    ap (type_with (bare_type def)) (details_are def)
+    ap (type_with_details (bare_type def)) (details_are def)
     ∙ all_4 (λ (_ : Unit {0}) (span : Option (ℕ × ℕ)) (external_id : Option (List ℕ)) (k : TypeDefKind).
     let it : TypeDef = record def { span = span; external_id = external_id; kind = k } in it)
     (only_slots (codes "span" ∷ codes "external-id" ∷ codes "parts" ∷ []) ss refl)
     (reads_span_member def.span j fits.span (get_slot (codes "span") ss))
-    (reads_optional text_of json_of_text (codes "external-id") j def.external_id (get_slot (codes "external-id") ss) (reads_texts def.external_id))
+    (reads_optional read_text json_of_text (codes "external-id") j def.external_id (get_slot (codes "external-id") ss) (reads_texts def.external_id))
     (kind_complete def.span def.external_id def.kind fits.kind)
 
 -- ---- functions and interfaces
 
 param_complete : (p : Param) → IsWritableParam p → param_with (bare_param p) (json_of_span p.span) ≡ Ok p
 unfolding param_with
-param_complete p fits = followed (place_of (json_of_span p.span)) _ p.span (Ok p) (reads_span p.span fits.1) refl
+param_complete p fits = followed (read_place (json_of_span p.span)) _ p.span (Ok p) (reads_span p.span fits.1) refl
 
-pub function_complete : (f : Function) → IsWritableFunction f → function_with (bare_function f) (function_details f) ≡ Ok f
-unfolding function_with
+pub function_complete : (f : Function) → IsWritableFunction f → function_with_details (bare_function f) (function_details f) ≡ Ok f
+unfolding function_with_details
 function_complete f fits =
     let ss : List Slot =
     (codes "span", option_map json_of_range f.span) ∷ (codes "external-id", option_map json_of_text f.external_id)
@@ -193,7 +193,7 @@ function_complete f fits =
     let it : Function = record f { span = span; external_id = external_id; params = params } in it)
     (only_slots (codes "span" ∷ codes "external-id" ∷ codes "params" ∷ []) ss refl)
     (reads_span_member f.span j fits.span (get_slot (codes "span") ss))
-    (reads_optional text_of json_of_text (codes "external-id") j f.external_id (get_slot (codes "external-id") ss) (reads_texts f.external_id))
+    (reads_optional read_text json_of_text (codes "external-id") j f.external_id (get_slot (codes "external-id") ss) (reads_texts f.external_id))
     (reads_required (list_with param_with (map bare_param f.params)) (codes "params") j (written.list_of (λ (p : Param). json_of_span p.span) f.params) f.params (get_slot (codes "params") ss)
     (list_complete param_with bare_param (λ (p : Param). json_of_span p.span) f.params (λ i p at. param_complete p (fits.params i p at))))
 
@@ -205,8 +205,8 @@ interface_complete i fits =
     all_3 (λ (_ : Unit {0}) (span : Option (ℕ × ℕ)) (functions : List (List ℕ × Function)). let it : Interface = record i { span = span; functions = functions } in it)
     (only_slots (codes "span" ∷ codes "functions" ∷ []) ss refl)
     (reads_span_member i.span j fits.span (get_slot (codes "span") ss))
-    (reads_required (named_with function_with (bare_functions i.functions)) (codes "functions") j (object_under_names function_details i.functions) i.functions (get_slot (codes "functions") ss)
-    (entries_complete (λ (name : List ℕ). name) function_with bare_function function_details i.functions (λ n e at. function_complete e.1 (fits.functions n e at))))
+    (reads_required (named_with function_with_details (bare_functions i.functions)) (codes "functions") j (object_under_names function_details i.functions) i.functions (get_slot (codes "functions") ss)
+    (entries_complete (λ (name : List ℕ). name) function_with_details bare_function function_details i.functions (λ n e at. function_complete e.1 (fits.functions n e at))))
 
 -- ---- worlds
 
@@ -220,13 +220,13 @@ entry_complete docs span external_id fits =
     (only_slots (codes "docs" ∷ codes "span" ∷ codes "external-id" ∷ []) ss refl)
     (reads_docs docs j (get_slot (codes "docs") ss))
     (reads_span_member span j fits (get_slot (codes "span") ss))
-    (reads_optional text_of json_of_text (codes "external-id") j external_id (get_slot (codes "external-id") ss) (reads_texts external_id))
+    (reads_optional read_text json_of_text (codes "external-id") j external_id (get_slot (codes "external-id") ss) (reads_texts external_id))
 
 span_complete : (span : Option (ℕ × ℕ)) → IsWritableSpan span → span_alone (slots ((codes "span", option_map json_of_range span) ∷ [])) ≡ Ok span
 unfolding span_alone
 span_complete span fits =
     let ss : List Slot = (codes "span", option_map json_of_range span) ∷ [] in
-    followed (only (codes "span" ∷ []) (slots ss)) (λ _. span_of (slots ss)) tt (Ok span) (only_slots (codes "span" ∷ []) ss refl)
+    followed (only (codes "span" ∷ []) (slots ss)) (λ _. read_span (slots ss)) tt (Ok span) (only_slots (codes "span" ∷ []) ss refl)
     (reads_span_member span (slots ss) fits (get_slot (codes "span") ss))
 
 item_complete : (it : WorldItem) → IsWritableItem it → item_with (bare_item it) (item_details it) ≡ Ok it

@@ -26,18 +26,18 @@ use Rattle.wit_json.specs.Values as written
 use Rattle.wit_json.specs.Values.{json_of_text}
 use Rattle.wit_json.specs.Whole.{json_of_features, json_of_rule, json_of_sources}
 use Rattle.wit_json.specs.Worlds.{json_of_interface, json_of_world}
-use Rattle.wit_json_graphs.specs.Details.{graph_with, interface_with, list_with, type_with, world_with}
-use Rattle.wit_json_graphs.specs.Resolves.{features_beside, no_features, resolve_of, rule_beside, sources_beside, with_details}
+use Rattle.wit_json_graphs.specs.Details.{graph_with, interface_with, list_with, type_with_details, world_with}
+use Rattle.wit_json_graphs.specs.Resolves.{features_beside, no_features, read_resolve, rule_beside, sources_beside, with_details}
 use Rattle.wit_json_graphs.specs.declared.resolves.ResolveParts.{ResolveParts}
 use Rattle.wit_json_graphs.specs.Writable.{AreApart, AreWritableSources, IsWritableGraph}
 use Rattle.wit_json_graphs.specs.laws.ReadBack.{ResolvesReadBack}
-use Rattle.wit_json_reading.specs.Features.{features_of, names_of, rule_of, with_name, with_names}
-use Rattle.wit_json_reading.specs.Graphs.{graph_of, graph_package_of, homes_of}
-use Rattle.wit_json_reading.specs.Groups.{sources_of}
-use Rattle.wit_json_reading.specs.Reading.{Reading, ◌>>=◌, list_of, only, optional, required, under, without}
-use Rattle.wit_json_reading.specs.Types.{type_def_of}
-use Rattle.wit_json_reading.specs.Values.{boolean_of, text_of}
-use Rattle.wit_json_reading.specs.Worlds.{interface_of, world_of}
+use Rattle.wit_json_reading.specs.Features.{read_features, read_names, read_rule, names_with_one, names_with}
+use Rattle.wit_json_reading.specs.Graphs.{read_graph, read_graph_package, homes_of}
+use Rattle.wit_json_reading.specs.Groups.{read_sources}
+use Rattle.wit_json_reading.specs.Reading.{Reading, ◌>>=◌, read_list, only, read_optional, read_required, under, read_leaving_out}
+use Rattle.wit_json_reading.specs.Types.{read_type_def}
+use Rattle.wit_json_reading.specs.Values.{read_boolean, read_text}
+use Rattle.wit_json_reading.specs.Worlds.{read_interface, read_world}
 use Rattle.wit_json_reading.specs.declared.fault.Step.TheVariants as step
 use Rattle.wit_json_graphs.proofs.Bare.{bare_type, reads_bare_type}
 use Rattle.wit_json_graphs.proofs.DetailsRead.{interface_complete, list_complete, type_complete, world_complete}
@@ -48,7 +48,7 @@ use Rattle.wit_json_graphs.proofs.Steps.{all_3, all_4, reads_list, reads_list_as
 
 -- ---- the layout
 
--- a graph without what its details have
+-- a graph read_leaving_out what its details have
 abbrev bare_graph : Graph → Graph
 bare_graph g = record g { types = map bare_type g.types; interfaces = map bare_interface g.interfaces; worlds = map bare_world g.worlds }
 
@@ -64,19 +64,19 @@ abbrev behind_packages : List World → List Interface → List TypeDef → List
 behind_packages worlds interfaces types packages = under (step.Member (codes "packages")) (homes_of packages) >>= λ names. Ok (graph_by worlds interfaces types packages names)
 
 abbrev behind_types : Json → List World → List Interface → List TypeDef → Reading Graph
-behind_types j worlds interfaces types = required (list_of graph_package_of) (codes "packages") j >>= λ packages. behind_packages worlds interfaces types packages
+behind_types j worlds interfaces types = read_required (read_list read_graph_package) (codes "packages") j >>= λ packages. behind_packages worlds interfaces types packages
 
 abbrev behind_interfaces : Json → List World → List Interface → Reading Graph
-behind_interfaces j worlds interfaces = required (list_of type_def_of) (codes "types") j >>= λ types. behind_types j worlds interfaces types
+behind_interfaces j worlds interfaces = read_required (read_list read_type_def) (codes "types") j >>= λ types. behind_types j worlds interfaces types
 
 abbrev behind_worlds : Json → List World → Reading Graph
-behind_worlds j worlds = required (list_of interface_of) (codes "interfaces") j >>= λ interfaces. behind_interfaces j worlds interfaces
+behind_worlds j worlds = read_required (read_list read_interface) (codes "interfaces") j >>= λ interfaces. behind_interfaces j worlds interfaces
 
 abbrev behind_names : Json → Reading Graph
-behind_names j = required (list_of (without (codes "includes") world_of)) (codes "worlds") j >>= λ worlds. behind_worlds j worlds
+behind_names j = read_required (read_list (read_leaving_out (codes "includes") read_world)) (codes "worlds") j >>= λ worlds. behind_worlds j worlds
 
-reads_bare_graph : (g : Graph) → IsWritableGraph g → graph_of (json_of_graph g) ≡ Ok (bare_graph g)
-unfolding graph_of
+reads_bare_graph : (g : Graph) → IsWritableGraph g → read_graph (json_of_graph g) ≡ Ok (bare_graph g)
+unfolding read_graph
 reads_bare_graph g fits =
     let ss : List Slot =
     (codes "worlds", Some (written.list_of json_of_world g.worlds)) ∷ (codes "interfaces", Some (written.list_of json_of_interface g.interfaces))
@@ -87,18 +87,18 @@ reads_bare_graph g fits =
     let ts : List TypeDef = map bare_type g.types in
     followed (only (codes "worlds" ∷ codes "interfaces" ∷ codes "types" ∷ codes "packages" ∷ []) j) (λ _. behind_names j) tt (Ok (bare_graph g))
     (only_slots (codes "worlds" ∷ codes "interfaces" ∷ codes "types" ∷ codes "packages" ∷ []) ss refl)
-    (followed (required (list_of (without (codes "includes") world_of)) (codes "worlds") j) (behind_worlds j) ws (Ok (bare_graph g))
-    (reads_required (list_of (without (codes "includes") world_of)) (codes "worlds") j (written.list_of json_of_world g.worlds) ws (get_slot (codes "worlds") ss)
-    (reads_list_as (without (codes "includes") world_of) bare_world json_of_world g.worlds (λ i w at. reads_bare_world w (fits.worlds i w at) (fits.world_homes i w at))))
-    (followed (required (list_of interface_of) (codes "interfaces") j) (behind_interfaces j ws) is (Ok (bare_graph g))
-    (reads_required (list_of interface_of) (codes "interfaces") j (written.list_of json_of_interface g.interfaces) is (get_slot (codes "interfaces") ss)
-    (reads_list_as interface_of bare_interface json_of_interface g.interfaces (λ n i at. reads_bare_interface i (fits.interfaces n i at) (fits.interface_homes n i at))))
-    (followed (required (list_of type_def_of) (codes "types") j) (behind_types j ws is) ts (Ok (bare_graph g))
-    (reads_required (list_of type_def_of) (codes "types") j (written.list_of json_of_type_def g.types) ts (get_slot (codes "types") ss)
-    (reads_list_as type_def_of bare_type json_of_type_def g.types (λ i def at. reads_bare_type def (fits.types i def at))))
-    (followed (required (list_of graph_package_of) (codes "packages") j) (behind_packages ws is ts) g.packages (Ok (bare_graph g))
-    (reads_required (list_of graph_package_of) (codes "packages") j (written.list_of json_of_package g.packages) g.packages (get_slot (codes "packages") ss)
-    (reads_list graph_package_of json_of_package g.packages (λ i p at. reads_home_package p (fits.packages i p at))))
+    (followed (read_required (read_list (read_leaving_out (codes "includes") read_world)) (codes "worlds") j) (behind_worlds j) ws (Ok (bare_graph g))
+    (reads_required (read_list (read_leaving_out (codes "includes") read_world)) (codes "worlds") j (written.list_of json_of_world g.worlds) ws (get_slot (codes "worlds") ss)
+    (reads_list_as (read_leaving_out (codes "includes") read_world) bare_world json_of_world g.worlds (λ i w at. reads_bare_world w (fits.worlds i w at) (fits.world_homes i w at))))
+    (followed (read_required (read_list read_interface) (codes "interfaces") j) (behind_interfaces j ws) is (Ok (bare_graph g))
+    (reads_required (read_list read_interface) (codes "interfaces") j (written.list_of json_of_interface g.interfaces) is (get_slot (codes "interfaces") ss)
+    (reads_list_as read_interface bare_interface json_of_interface g.interfaces (λ n i at. reads_bare_interface i (fits.interfaces n i at) (fits.interface_homes n i at))))
+    (followed (read_required (read_list read_type_def) (codes "types") j) (behind_types j ws is) ts (Ok (bare_graph g))
+    (reads_required (read_list read_type_def) (codes "types") j (written.list_of json_of_type_def g.types) ts (get_slot (codes "types") ss)
+    (reads_list_as read_type_def bare_type json_of_type_def g.types (λ i def at. reads_bare_type def (fits.types i def at))))
+    (followed (read_required (read_list read_graph_package) (codes "packages") j) (behind_packages ws is ts) g.packages (Ok (bare_graph g))
+    (reads_required (read_list read_graph_package) (codes "packages") j (written.list_of json_of_package g.packages) g.packages (get_slot (codes "packages") ss)
+    (reads_list read_graph_package json_of_package g.packages (λ i p at. reads_home_package p (fits.packages i p at))))
     (followed (under (step.Member (codes "packages")) (homes_of g.packages)) (λ names. Ok (graph_by ws is ts g.packages names)) g.package_names (Ok (bare_graph g))
     (ap (under (step.Member (codes "packages"))) (names_there g fits)) refl)))))
 
@@ -116,8 +116,8 @@ graph_complete g fits =
     (list_complete world_with bare_world world_details g.worlds (λ i w at. world_complete w (fits.worlds i w at) (fits.no_includes i w at))))
     (reads_required (list_with interface_with (map bare_interface g.interfaces)) (codes "interfaces") j (written.list_of interface_details g.interfaces) g.interfaces (get_slot (codes "interfaces") ss)
     (list_complete interface_with bare_interface interface_details g.interfaces (λ n i at. interface_complete i (fits.interfaces n i at))))
-    (reads_required (list_with type_with (map bare_type g.types)) (codes "types") j (written.list_of type_details g.types) g.types (get_slot (codes "types") ss)
-    (list_complete type_with bare_type type_details g.types (λ i def at. type_complete def (fits.types i def at))))
+    (reads_required (list_with type_with_details (map bare_type g.types)) (codes "types") j (written.list_of type_details g.types) g.types (get_slot (codes "types") ss)
+    (list_complete type_with_details bare_type type_details g.types (λ i def at. type_complete def (fits.types i def at))))
 
 -- ---- features
 
@@ -132,34 +132,34 @@ none_same (d ∷ done) name none = neither (bytes_eq name d) (list_any (bytes_eq
     other true same = absurd (none 0 (ap Some (sym ((bytes_eq-Decides name d).0 same))))
     other false differs = refl
 
-reads_names : (done names : List (List ℕ)) → AreApart (done ++ names) → with_names done names ≡ done ++ names
+reads_names : (done names : List (List ℕ)) → AreApart (done ++ names) → names_with done names ≡ done ++ names
 reads_names done [] apart = sym (append-nil done)
 reads_names done (name ∷ names) apart =
     let new : list_any (bytes_eq name) done ≡ false =
     none_same done name (λ i at. let within = slice_get_within done i name at in
     let same = apart i (length done) name (slice_get-append done (name ∷ names) i name at) (slice_get-behind done names name) in omega (arith, within, same)) in
     let longer : (done ++ name ∷ []) ++ names ≡ done ++ name ∷ names = append_assoc done (name ∷ []) names in
-    ap (λ (b : Bool). with_names (if b then done else done ++ name ∷ []) names) new
+    ap (λ (b : Bool). names_with (if b then done else done ++ name ∷ []) names) new
     ∙ reads_names (done ++ name ∷ []) names (subst (λ (all : List (List ℕ)). AreApart all) (sym longer) apart) ∙ longer
 
-reads_name_set : (names : List (List ℕ)) → AreApart names → names_of (written.list_of json_of_text names) ≡ Ok names
-unfolding names_of
+reads_name_set : (names : List (List ℕ)) → AreApart names → read_names (written.list_of json_of_text names) ≡ Ok names
+unfolding read_names
 reads_name_set names apart =
-    followed (list_of text_of (written.list_of json_of_text names)) (λ texts. Ok (with_names [] texts)) names (Ok names) (reads_list text_of json_of_text names (λ i name at. refl))
+    followed (read_list read_text (written.list_of json_of_text names)) (λ texts. Ok (names_with [] texts)) names (Ok names) (reads_list read_text json_of_text names (λ i name at. refl))
     (ap Ok (reads_names [] names apart))
 
-reads_features : (features : Features) → AreApart features.names → features_of (json_of_features features) ≡ Ok features
-unfolding features_of
+reads_features : (features : Features) → AreApart features.names → read_features (json_of_features features) ≡ Ok features
+unfolding read_features
 reads_features f apart =
     let ss : List Slot = (codes "all", Some (json.boolean f.all)) ∷ (codes "names", Some (written.list_of json_of_text f.names)) ∷ [] in
     let j = slots ss in
     all_3 (λ (_ : Unit {0}) (all : Bool) (names : List (List ℕ)). let it : Features = record { names = names; all = all } in it)
     (only_slots (codes "all" ∷ codes "names" ∷ []) ss refl)
-    (reads_required boolean_of (codes "all") j (json.boolean f.all) f.all (get_slot (codes "all") ss) refl)
-    (reads_required names_of (codes "names") j (written.list_of json_of_text f.names) f.names (get_slot (codes "names") ss) (reads_name_set f.names apart))
+    (reads_required read_boolean (codes "all") j (json.boolean f.all) f.all (get_slot (codes "all") ss) refl)
+    (reads_required read_names (codes "names") j (written.list_of json_of_text f.names) f.names (get_slot (codes "names") ss) (reads_name_set f.names apart))
 
-reads_rule : (rule : TrackRule) → rule_of (json_of_rule rule) ≡ Ok rule
-unfolding rule_of
+reads_rule : (rule : TrackRule) → read_rule (json_of_rule rule) ≡ Ok rule
+unfolding read_rule
 reads_rule Published = refl
 reads_rule WithPrereleases = refl
 
@@ -168,19 +168,19 @@ reads_rule WithPrereleases = refl
 features_there : (features : Features) (j : Json) → AreApart features.names → get (codes "features") j ≡ Some (json_of_features features) → features_beside j ≡ Ok features
 unfolding features_beside
 features_there features j apart there =
-    followed (optional features_of (codes "features") j) _ (Some features) (Ok features)
-    (reads_optional features_of json_of_features (codes "features") j (Some features) there (reads_features features apart)) refl
+    followed (read_optional read_features (codes "features") j) _ (Some features) (Ok features)
+    (reads_optional read_features json_of_features (codes "features") j (Some features) there (reads_features features apart)) refl
 
 rule_there : (rule : TrackRule) (j : Json) → get (codes "track-rule") j ≡ Some (json_of_rule rule) → rule_beside j ≡ Ok rule
 unfolding rule_beside
 rule_there rule j there =
-    followed (optional rule_of (codes "track-rule") j) _ (Some rule) (Ok rule) (reads_optional rule_of json_of_rule (codes "track-rule") j (Some rule) there (reads_rule rule)) refl
+    followed (read_optional read_rule (codes "track-rule") j) _ (Some rule) (Ok rule) (reads_optional read_rule json_of_rule (codes "track-rule") j (Some rule) there (reads_rule rule)) refl
 
 sources_there : (sources : Sources) (j : Json) → AreWritableSources sources → get (codes "sources") j ≡ Some (json_of_sources sources) → sources_beside j ≡ Ok sources
 unfolding sources_beside
 sources_there sources j fits there =
-    followed (optional sources_of (codes "sources") j) _ (Some sources) (Ok sources)
-    (reads_optional sources_of json_of_sources (codes "sources") j (Some sources) there (reads_sources sources fits)) refl
+    followed (read_optional read_sources (codes "sources") j) _ (Some sources) (Ok sources)
+    (reads_optional read_sources json_of_sources (codes "sources") j (Some sources) there (reads_sources sources fits)) refl
 
 abbrev parts_by : Graph → Features → TrackRule → Sources → ResolveParts
 parts_by graph features rule sources = record { graph = graph; features = features; source_map = sources; track_rule = rule }
@@ -191,10 +191,10 @@ behind_graph j graph =
     with_details graph (get (codes "details") j) >>= λ whole. features_beside j >>= λ features. rule_beside j >>= λ rule. sources_beside j >>= λ sources. Ok (parts_by whole features rule sources)
 
 abbrev behind_all : Json → Reading ResolveParts
-behind_all j = required graph_of (codes "graph") j >>= λ graph. behind_graph j graph
+behind_all j = read_required read_graph (codes "graph") j >>= λ graph. behind_graph j graph
 
 pub resolves_read_back : ResolvesReadBack
-unfolding resolve_of
+unfolding read_resolve
 resolves_read_back parts fits =
     let g = parts.graph in
     let ss : List Slot =
@@ -203,8 +203,8 @@ resolves_read_back parts fits =
     let j = slots ss in
     followed (only (codes "graph" ∷ codes "details" ∷ codes "features" ∷ codes "track-rule" ∷ codes "sources" ∷ []) j) (λ _. behind_all j) tt (Ok parts)
     (only_slots (codes "graph" ∷ codes "details" ∷ codes "features" ∷ codes "track-rule" ∷ codes "sources" ∷ []) ss refl)
-    (followed (required graph_of (codes "graph") j) (behind_graph j) (bare_graph g) (Ok parts)
-    (reads_required graph_of (codes "graph") j (json_of_graph g) (bare_graph g) (get_slot (codes "graph") ss) (reads_bare_graph g fits.graph))
+    (followed (read_required read_graph (codes "graph") j) (behind_graph j) (bare_graph g) (Ok parts)
+    (reads_required read_graph (codes "graph") j (json_of_graph g) (bare_graph g) (get_slot (codes "graph") ss) (reads_bare_graph g fits.graph))
     (all_4 parts_by
     (ap (with_details (bare_graph g)) (get_slot (codes "details") ss) ∙ ap (under (step.Member (codes "details"))) (graph_complete g fits.graph))
     (features_there parts.features j fits.features (get_slot (codes "features") ss))

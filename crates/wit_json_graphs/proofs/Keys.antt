@@ -22,7 +22,7 @@ use Rattle.wit_json_graphs.specs.Writable.{FitsKey, IsWritableItem, IsWritableKe
 use Rattle.wit_json_graphs.specs.laws.ReadBack.{EntryNamesDiffer}
 use Rattle.wit_json_reading.specs.Reading.{instead_of, under}
 use Rattle.wit_json_reading.specs.Values.{decimal_after}
-use Rattle.wit_json_reading.specs.Worlds.{key_of, names_differ, plain_key}
+use Rattle.wit_json_reading.specs.Worlds.{read_key, names_differ, plain_key}
 use Rattle.wit_json_reading.specs.declared.fault.Expected.TheVariants as expected
 use Rattle.wit_json_reading.specs.declared.fault.Step.TheVariants as step
 use Rattle.wit_json_graphs.proofs.Small.{number_read}
@@ -50,7 +50,7 @@ neither true b h = cc
 neither false b h = (refl, h)
 
 -- a name without a mark is read as it is
-unmarked : (name : List ℕ) (it : WorldItem) → starts_with nat_eq name (codes "%") ≡ false → key_of name it ≡ plain_key name it
+unmarked : (name : List ℕ) (it : WorldItem) → starts_with nat_eq name (codes "%") ≡ false → read_key name it ≡ plain_key name it
 unmarked name it none =
     ap (λ (b : Bool). option_map_or key.Name (if b then Some (drop 1 name) else None) (plain_key name it)) none
 
@@ -71,17 +71,17 @@ reads_plain label (item.Interface id stability docs span external_id) fits unlik
 reads_plain label (item.Function f) fits unlike = refl
 reads_plain label (item.Type_ id span) fits unlike = refl
 
-reads_label : (label : List ℕ) (it : WorldItem) → IsWritableItem it → key_of (entry_name (key.Name label)) it ≡ key.Name label
+reads_label : (label : List ℕ) (it : WorldItem) → IsWritableItem it → read_key (entry_name (key.Name label)) it ≡ key.Name label
 reads_label label it fits = by (wants_mark label) refl
   where
-    by : (b : Bool) → wants_mark label ≡ b → key_of (if b then codes "%" ++ label else label) it ≡ key.Name label
+    by : (b : Bool) → wants_mark label ≡ b → read_key (if b then codes "%" ++ label else label) it ≡ key.Name label
     by true marked = refl
     by false plain =
         let parts = neither (starts_with nat_eq label (codes "%")) (is_like_key label) plain in
         unmarked label it parts.0 ∙ reads_plain label it fits parts.1
 
 -- a key is told by its name
-pub reads_key : (k : WorldKey) (it : WorldItem) → FitsKey k it → IsWritableItem it → key_of (entry_name k) it ≡ k
+pub reads_key : (k : WorldKey) (it : WorldItem) → FitsKey k it → IsWritableItem it → read_key (entry_name k) it ≡ k
 reads_key (key.Name label) it fits writable = reads_label label it writable
 reads_key (key.Interface id) (item.Interface other stability docs span external_id) fits writable =
     ap (λ (b : Bool). if b then key.Interface other else key.Name (codes "interface-" ++ decimal id))
@@ -100,7 +100,7 @@ a_type = item.Type_ 0 None
 -- what fits both keys tells that they are the same
 told_by : (k l : WorldKey) (it : WorldItem) → FitsKey k it → FitsKey l it → IsWritableItem it → entry_name k ≡ entry_name l → k ≡ l
 told_by k l it fits other writable same =
-    sym (reads_key k it fits writable) ∙ ap (λ (name : List ℕ). key_of name it) same ∙ reads_key l it other writable
+    sym (reads_key k it fits writable) ∙ ap (λ (name : List ℕ). read_key name it) same ∙ reads_key l it other writable
 
 pub entry_names_differ : EntryNamesDiffer
 entry_names_differ (key.Name a) (key.Name b) fits other same = told_by (key.Name a) (key.Name b) a_type tt tt (omega arith, tt) same

@@ -32,14 +32,14 @@ use Rattle.wit_json.specs.Values as written
 use Rattle.wit_json.specs.Values.{json_of_number, members_of, object_under_names, pair, tagged}
 use Rattle.wit_json_graphs.specs.Writable.{AreWritableItems, IsWritableAstItem, IsWritableGate, IsWritableName}
 use Rattle.wit_json_graphs.specs.laws.ReadBack.{PackagesReadBack}
-use Rattle.wit_json_reading.specs.Gates.{gate_of, place_of}
-use Rattle.wit_json_reading.specs.Objects.{pair_of}
-use Rattle.wit_json_reading.specs.Packages.{ast_item_by, ast_item_of, dep_of, deps_from, deps_of, foreign_item_of, name_in, package_name_in, package_name_of, package_names, package_of, version_behind}
-use Rattle.wit_json_reading.specs.Reading.{◌>>=◌, instead_of, list_of, under, without}
-use Rattle.wit_json_reading.specs.Tables.{named_of}
-use Rattle.wit_json_reading.specs.Types.{type_def_of}
-use Rattle.wit_json_reading.specs.Values.{number_of, version_in}
-use Rattle.wit_json_reading.specs.Worlds.{interface_of, world_of}
+use Rattle.wit_json_reading.specs.Gates.{read_any_gate, read_place}
+use Rattle.wit_json_reading.specs.Objects.{read_pair}
+use Rattle.wit_json_reading.specs.Packages.{read_ast_item_by, read_ast_item, read_dep, deps_from, read_deps, read_foreign_item, name_in, package_name_in, read_package_name, package_members, read_package, version_behind}
+use Rattle.wit_json_reading.specs.Reading.{◌>>=◌, instead_of, read_list, under, read_leaving_out}
+use Rattle.wit_json_reading.specs.Tables.{read_named}
+use Rattle.wit_json_reading.specs.Types.{read_type_def}
+use Rattle.wit_json_reading.specs.Values.{read_number, version_in}
+use Rattle.wit_json_reading.specs.Worlds.{read_interface, read_world}
 use Rattle.wit_json_reading.specs.declared.fault.Expected.TheVariants as expected
 use Rattle.wit_json_reading.specs.declared.fault.Step.TheVariants as step
 use Rattle.wit_json_graphs.proofs.Slots.{Slot, get_slot, only_slots, slots}
@@ -135,28 +135,28 @@ reads_package_name name fits =
     ∙ ap (λ (it : List ℕ). name_in it (after_first (λ b. b == 58) text)) (front 58 name.namespace rest fits.namespace refl)
     ∙ ap (name_in name.namespace) (back 58 name.namespace rest fits.namespace refl) ∙ reads_name_in name.namespace name.name name.version fits.own fits.version
 
-pub reads_name_value : (name : PackageName) → IsWritableName name → package_name_of (json_of_package_name name) ≡ Ok name
-unfolding package_name_of
+pub reads_name_value : (name : PackageName) → IsWritableName name → read_package_name (json_of_package_name name) ≡ Ok name
+unfolding read_package_name
 reads_name_value name fits = reads_package_name name fits
 
 -- ---- what is named of other packages
 
-reads_ast_item : (it : AstItem) → IsWritableAstItem it → ast_item_of (json_of_ast_item it) ≡ Ok it
-unfolding ast_item_of
+reads_ast_item : (it : AstItem) → IsWritableAstItem it → read_ast_item (json_of_ast_item it) ≡ Ok it
+unfolding read_ast_item
 reads_ast_item (ast.Interface id) fits =
-    reads_variant ast_item_by expected.ForeignItem (codes "interface") (json_of_number id) (ast.Interface id)
-    (followed (number_of (json_of_number id)) _ id (Ok (ast.Interface id)) (reads_number id fits) refl)
+    reads_variant read_ast_item_by expected.ForeignItem (codes "interface") (json_of_number id) (ast.Interface id)
+    (followed (read_number (json_of_number id)) _ id (Ok (ast.Interface id)) (reads_number id fits) refl)
 reads_ast_item (ast.World id) fits =
-    reads_variant ast_item_by expected.ForeignItem (codes "world") (json_of_number id) (ast.World id) (followed (number_of (json_of_number id)) _ id (Ok (ast.World id)) (reads_number id fits) refl)
+    reads_variant read_ast_item_by expected.ForeignItem (codes "world") (json_of_number id) (ast.World id) (followed (read_number (json_of_number id)) _ id (Ok (ast.World id)) (reads_number id fits) refl)
 
-reads_foreign_item : (named : AstItem × List Stability) → IsWritableAstItem named.0 → Each IsWritableGate named.1 → foreign_item_of (json_of_foreign_item named) ≡ Ok named
+reads_foreign_item : (named : AstItem × List Stability) → IsWritableAstItem named.0 → Each IsWritableGate named.1 → read_foreign_item (json_of_foreign_item named) ≡ Ok named
 reads_foreign_item named fits gates =
-    reads_pair ast_item_of (list_of gate_of) (json_of_ast_item named.0) (written.list_of json_of_gate named.1) named.0 named.1 (reads_ast_item named.0 fits)
-    (reads_list gate_of json_of_gate named.1 (λ i gate at. reads_gate gate (gates i gate at)))
+    reads_pair read_ast_item (read_list read_any_gate) (json_of_ast_item named.0) (written.list_of json_of_gate named.1) named.0 named.1 (reads_ast_item named.0 fits)
+    (reads_list read_any_gate json_of_gate named.1 (λ i gate at. reads_gate gate (gates i gate at)))
 
-reads_foreign_items : (items : List ForeignItem) → AreWritableItems items → named_of foreign_item_of (object_under_names json_of_foreign_item items) ≡ Ok items
+reads_foreign_items : (items : List ForeignItem) → AreWritableItems items → read_named read_foreign_item (object_under_names json_of_foreign_item items) ≡ Ok items
 reads_foreign_items items fits =
-    reads_named foreign_item_of json_of_foreign_item items fits.differ (λ i e at. reads_foreign_item e.1 (fits.items i e at) (fits.gates i e at))
+    reads_named read_foreign_item json_of_foreign_item items fits.differ (λ i e at. reads_foreign_item e.1 (fits.items i e at) (fits.gates i e at))
 
 abbrev Dep : Type 0
 Dep = PackageName × List ForeignItem
@@ -165,11 +165,11 @@ abbrev member_of : Dep → List ℕ × Json
 member_of e = (package_name_text e.0, object_under_names json_of_foreign_item e.1)
 
 one_dep : (e : Dep) (before : List Dep) → IsWritableName e.0 → AreWritableItems e.1 → is_some (lookup (same_package e.0) before) ≡ false
-    → dep_of (package_name_text e.0) (object_under_names json_of_foreign_item e.1) before ≡ Ok (before ++ e ∷ [])
+    → read_dep (package_name_text e.0) (object_under_names json_of_foreign_item e.1) before ≡ Ok (before ++ e ∷ [])
 one_dep e before name items new =
     let text = package_name_text e.0 in
     followed (under (step.Member text) (package_name_in text)) _ e.0 (Ok (before ++ e ∷ [])) (ap (under (step.Member text)) (reads_package_name e.0 name))
-    (followed (under (step.Member text) (named_of foreign_item_of (object_under_names json_of_foreign_item e.1))) _ e.1 (Ok (before ++ e ∷ []))
+    (followed (under (step.Member text) (read_named read_foreign_item (object_under_names json_of_foreign_item e.1))) _ e.1 (Ok (before ++ e ∷ []))
     (ap (under (step.Member text)) (reads_foreign_items e.1 items))
     (ap (λ (b : Bool). if b then under (step.Member text) (instead_of expected.NoSecondMember) else Ok (before ++ e ∷ [])) new))
 
@@ -179,10 +179,10 @@ reads_deps_from before [] distinct names items = ap Ok (sym (append-nil before))
 reads_deps_from before (e ∷ es) distinct names items =
     let new : is_some (lookup (same_package e.0) before) ≡ false = is_new same_name before es e distinct in
     let longer : (before ++ e ∷ []) ++ es ≡ before ++ e ∷ es = append_assoc before (e ∷ []) es in
-    followed (dep_of (package_name_text e.0) (object_under_names json_of_foreign_item e.1) before) _ (before ++ e ∷ []) (Ok (before ++ e ∷ es)) (one_dep e before (names 0 e refl) (items 0 e refl) new)
+    followed (read_dep (package_name_text e.0) (object_under_names json_of_foreign_item e.1) before) _ (before ++ e ∷ []) (Ok (before ++ e ∷ es)) (one_dep e before (names 0 e refl) (items 0 e refl) new)
     (reads_deps_from (before ++ e ∷ []) es (subst (λ (all : List Dep). HasDistinctKeys all) (sym longer) distinct) (λ i y at. names (suc i) y at) (λ i y at. items (suc i) y at) ∙ ap Ok longer)
 
-reads_deps : (es : List Dep) → HasDistinctKeys es → Each (λ (e : Dep). IsWritableName e.0) es → Each (λ (e : Dep). AreWritableItems e.1) es → deps_of (json_of_deps es) ≡ Ok es
+reads_deps : (es : List Dep) → HasDistinctKeys es → Each (λ (e : Dep). IsWritableName e.0) es → Each (λ (e : Dep). AreWritableItems e.1) es → read_deps (json_of_deps es) ≡ Ok es
 reads_deps es distinct names items = reads_deps_from [] es distinct names items
 
 -- ---- packages
@@ -191,7 +191,7 @@ abbrev resource : ℕ × Option (ℕ × ℕ) → Json
 resource r = pair (json_of_number r.0) (json_of_span r.1)
 
 pub packages_read_back : PackagesReadBack
-unfolding package_of
+unfolding read_package
 packages_read_back p fits =
     let ss : List Slot =
     (codes "name", Some (json_of_package_name p.name)) ∷ (codes "span", option_map json_of_range p.package_name_span) ∷ (codes "docs", json_of_docs p.docs)
@@ -215,25 +215,25 @@ packages_read_back p fits =
       required_resource_types = resources;
     } in
     it)
-    (only_slots package_names ss refl)
-    (reads_required package_name_of (codes "name") j (json_of_package_name p.name) p.name (get_slot (codes "name") ss) (reads_name_value p.name fits.name))
+    (only_slots package_members ss refl)
+    (reads_required read_package_name (codes "name") j (json_of_package_name p.name) p.name (get_slot (codes "name") ss) (reads_name_value p.name fits.name))
     (reads_span_member p.package_name_span j fits.span (get_slot (codes "span") ss))
     (reads_docs p.docs j (get_slot (codes "docs") ss))
-    (reads_required (list_of (without (codes "package") world_of)) (codes "worlds") j (written.list_of whole_world p.worlds) p.worlds (get_slot (codes "worlds") ss)
-    (reads_list (without (codes "package") world_of) whole_world p.worlds (λ i w at. reads_world w (fits.worlds i w at) (fits.worlds_alone i w at))))
-    (reads_required (list_of (without (codes "package") interface_of)) (codes "interfaces") j (written.list_of whole_interface p.interfaces) p.interfaces
+    (reads_required (read_list (read_leaving_out (codes "package") read_world)) (codes "worlds") j (written.list_of whole_world p.worlds) p.worlds (get_slot (codes "worlds") ss)
+    (reads_list (read_leaving_out (codes "package") read_world) whole_world p.worlds (λ i w at. reads_world w (fits.worlds i w at) (fits.worlds_alone i w at))))
+    (reads_required (read_list (read_leaving_out (codes "package") read_interface)) (codes "interfaces") j (written.list_of whole_interface p.interfaces) p.interfaces
     (get_slot (codes "interfaces") ss)
-    (reads_list (without (codes "package") interface_of) whole_interface p.interfaces (λ n i at. reads_interface i (fits.interfaces n i at) (fits.interfaces_alone n i at))))
-    (reads_required (list_of type_def_of) (codes "types") j (written.list_of whole_type p.types) p.types (get_slot (codes "types") ss)
-    (reads_list type_def_of whole_type p.types (λ i def at. reads_type_def def (fits.types i def at))))
-    (reads_required deps_of (codes "foreign-deps") j (json_of_deps p.foreign_deps) p.foreign_deps (get_slot (codes "foreign-deps") ss)
+    (reads_list (read_leaving_out (codes "package") read_interface) whole_interface p.interfaces (λ n i at. reads_interface i (fits.interfaces n i at) (fits.interfaces_alone n i at))))
+    (reads_required (read_list read_type_def) (codes "types") j (written.list_of whole_type p.types) p.types (get_slot (codes "types") ss)
+    (reads_list read_type_def whole_type p.types (λ i def at. reads_type_def def (fits.types i def at))))
+    (reads_required read_deps (codes "foreign-deps") j (json_of_deps p.foreign_deps) p.foreign_deps (get_slot (codes "foreign-deps") ss)
     (reads_deps p.foreign_deps fits.packages_differ fits.packages fits.items))
-    (reads_required (list_of place_of) (codes "foreign-dep-spans") j (written.list_of json_of_span p.foreign_dep_spans) p.foreign_dep_spans (get_slot (codes "foreign-dep-spans") ss)
-    (reads_list place_of json_of_span p.foreign_dep_spans (λ i span at. reads_span span (fits.dep_spans i span at))))
-    (reads_required (list_of place_of) (codes "unknown-type-spans") j (written.list_of json_of_span p.unknown_type_spans) p.unknown_type_spans (get_slot (codes "unknown-type-spans") ss)
-    (reads_list place_of json_of_span p.unknown_type_spans (λ i span at. reads_span span (fits.unknown_spans i span at))))
-    (reads_required (list_of (pair_of number_of place_of)) (codes "required-resources") j (written.list_of resource p.required_resource_types) p.required_resource_types
+    (reads_required (read_list read_place) (codes "foreign-dep-spans") j (written.list_of json_of_span p.foreign_dep_spans) p.foreign_dep_spans (get_slot (codes "foreign-dep-spans") ss)
+    (reads_list read_place json_of_span p.foreign_dep_spans (λ i span at. reads_span span (fits.dep_spans i span at))))
+    (reads_required (read_list read_place) (codes "unknown-type-spans") j (written.list_of json_of_span p.unknown_type_spans) p.unknown_type_spans (get_slot (codes "unknown-type-spans") ss)
+    (reads_list read_place json_of_span p.unknown_type_spans (λ i span at. reads_span span (fits.unknown_spans i span at))))
+    (reads_required (read_list (read_pair read_number read_place)) (codes "required-resources") j (written.list_of resource p.required_resource_types) p.required_resource_types
     (get_slot (codes "required-resources") ss)
-    (reads_list (pair_of number_of place_of) resource p.required_resource_types
-    (λ i it at. reads_pair number_of place_of (json_of_number it.0) (json_of_span it.1) it.0 it.1 (reads_number it.0 (fits.resources i it at).0)
+    (reads_list (read_pair read_number read_place) resource p.required_resource_types
+    (λ i it at. reads_pair read_number read_place (json_of_number it.0) (json_of_span it.1) it.0 it.1 (reads_number it.0 (fits.resources i it at).0)
     (reads_span it.1 (fits.resources i it at).1))))

@@ -18,9 +18,9 @@ use Rattle.wit_json.specs.Gates.{json_of_docs, json_of_stability}
 use Rattle.wit_json.specs.Unresolved.{json_of_gate}
 use Rattle.wit_json.specs.Values.{json_of_number, json_of_text, json_of_version, pair, tagged}
 use Rattle.wit_json_graphs.specs.Writable.{IsWritableGate, IsWritableSpan}
-use Rattle.wit_json_reading.specs.Gates.{contents_of, docs_of, gate_of, gate_by, place_of, range_of, span_of, stability_of, stable_of, unstable_of}
-use Rattle.wit_json_reading.specs.Reading.{instead_of, optional}
-use Rattle.wit_json_reading.specs.Values.{decimal_after, decimal_of, number_below, number_of, or_number, small_number_of, text_of, version_in, version_of}
+use Rattle.wit_json_reading.specs.Gates.{read_contents, read_docs, read_any_gate, read_gate_by, read_place, read_range, read_span, read_stability, read_stable, read_unstable}
+use Rattle.wit_json_reading.specs.Reading.{instead_of, read_optional}
+use Rattle.wit_json_reading.specs.Values.{decimal_after, decimal_of, number_below, read_number, or_number, read_small_number, read_text, version_in, read_version}
 use Rattle.wit_json_reading.specs.declared.fault.Expected.TheVariants as expected
 use Rattle.wit_json_graphs.proofs.Slots.{Slot, get_slot, only_slots, slots}
 use Rattle.wit_json_graphs.proofs.Steps.{all_1, all_3, reads_alone, reads_optional, reads_pair, reads_required, reads_variant, followed}
@@ -57,122 +57,122 @@ number_read n fits = decimal_by_steps (λ m ds. decimal_after 0 ds ≡ Some m) o
 is_below : (n limit : ℕ) → n < limit → nat_lt n limit ≡ true
 is_below n limit small = grind arith
 
-pub reads_number : (n : ℕ) → n < 2 ^ 64 → number_of (json_of_number n) ≡ Ok n
+pub reads_number : (n : ℕ) → n < 2 ^ 64 → read_number (json_of_number n) ≡ Ok n
 unfolding decimal_of
 reads_number n fits = ap or_number (ap (number_below (2 ^ 64)) (number_read n fits) ∙ ap (λ (b : Bool). if b then Some n else None) (is_below n (2 ^ 64) fits))
 
-pub reads_small : (n : ℕ) → n < 2 ^ 32 → small_number_of (json_of_number n) ≡ Ok n
-unfolding small_number_of
+pub reads_small : (n : ℕ) → n < 2 ^ 32 → read_small_number (json_of_number n) ≡ Ok n
+unfolding read_small_number
 reads_small n fits =
-    followed (number_of (json_of_number n)) _ n (Ok n) (reads_number n (omega arith)) (ap (λ (b : Bool). if b then Ok n else instead_of expected.SmallNumber) (is_below n (2 ^ 32) fits))
+    followed (read_number (json_of_number n)) _ n (Ok n) (reads_number n (omega arith)) (ap (λ (b : Bool). if b then Ok n else instead_of expected.SmallNumber) (is_below n (2 ^ 32) fits))
 
 -- ---- versions
 
-pub reads_version : (version : Parts) → IsValid version → version_of (json_of_version version) ≡ Ok version
-unfolding version_of
+pub reads_version : (version : Parts) → IsValid version → read_version (json_of_version version) ≡ Ok version
+unfolding read_version
 reads_version version valid = ap version_in (version_parts-complete version valid)
 
-pub reads_versions : (version : Option Parts) → IfSome version IsValid → IfSome version (λ v. version_of (json_of_version v) ≡ Ok v)
+pub reads_versions : (version : Option Parts) → IfSome version IsValid → IfSome version (λ v. read_version (json_of_version v) ≡ Ok v)
 reads_versions None valid = tt
 reads_versions (Some version) valid = reads_version version valid
 
 -- ---- texts
 
-pub reads_texts : (text : Option (List ℕ)) → IfSome text (λ t. text_of (json_of_text t) ≡ Ok t)
+pub reads_texts : (text : Option (List ℕ)) → IfSome text (λ t. read_text (json_of_text t) ≡ Ok t)
 reads_texts None = tt
 reads_texts (Some text) = refl
 
 -- ---- spans
 
-reads_range : (a b : ℕ) → a ≤ b → b < 2 ^ 32 → range_of (pair (json_of_number a) (json_of_number b)) ≡ Ok (Some (a, b))
-unfolding range_of
+reads_range : (a b : ℕ) → a ≤ b → b < 2 ^ 32 → read_range (pair (json_of_number a) (json_of_number b)) ≡ Ok (Some (a, b))
+unfolding read_range
 reads_range a b ordered fits =
     let in_order : nat_le a b ≡ true = grind arith in
-    followed _ (λ (r : ℕ × ℕ). if nat_le r.0 r.1 then Ok (Some r) else instead_of expected.Span) (a, b) (Ok (Some (a, b))) (reads_pair small_number_of small_number_of (json_of_number a) (json_of_number b) a b (reads_small a (omega arith)) (reads_small b fits))
+    followed _ (λ (r : ℕ × ℕ). if nat_le r.0 r.1 then Ok (Some r) else instead_of expected.Span) (a, b) (Ok (Some (a, b))) (reads_pair read_small_number read_small_number (json_of_number a) (json_of_number b) a b (reads_small a (omega arith)) (reads_small b fits))
     (ap (λ (o : Bool). if o then Ok (Some (a, b)) else instead_of expected.Span) in_order)
 
-pub reads_span : (span : Option (ℕ × ℕ)) → IsWritableSpan span → place_of (json_of_span span) ≡ Ok span
-unfolding place_of
+pub reads_span : (span : Option (ℕ × ℕ)) → IsWritableSpan span → read_place (json_of_span span) ≡ Ok span
+unfolding read_place
 reads_span None fits = refl
 reads_span (Some range) fits = reads_range range.0 range.1 fits.0 fits.1
 
-reads_ranges : (span : Option (ℕ × ℕ)) → IsWritableSpan span → IfSome span (λ range. place_of (json_of_range range) ≡ Ok (Some range))
-unfolding place_of
+reads_ranges : (span : Option (ℕ × ℕ)) → IsWritableSpan span → IfSome span (λ range. read_place (json_of_range range) ≡ Ok (Some range))
+unfolding read_place
 reads_ranges None fits = tt
 reads_ranges (Some range) fits = reads_range range.0 range.1 fits.0 fits.1
 
 -- the span of an item, which may be left out
-pub reads_span_member : (span : Option (ℕ × ℕ)) (j : Json) → IsWritableSpan span → get (codes "span") j ≡ option_map json_of_range span → span_of j ≡ Ok span
-unfolding span_of place_of
+pub reads_span_member : (span : Option (ℕ × ℕ)) (j : Json) → IsWritableSpan span → get (codes "span") j ≡ option_map json_of_range span → read_span j ≡ Ok span
+unfolding read_span read_place
 reads_span_member None j fits there =
-    followed (optional place_of (codes "span") j) _ None (Ok None) (reads_optional place_of json_of_span (codes "span") j None there tt) refl
+    followed (read_optional read_place (codes "span") j) _ None (Ok None) (reads_optional read_place json_of_span (codes "span") j None there tt) refl
 reads_span_member (Some range) j fits there =
-    followed (optional place_of (codes "span") j) _ (Some (Some range)) (Ok (Some range))
-    (reads_optional place_of json_of_span (codes "span") j (Some (Some range)) there (reads_range range.0 range.1 fits.0 fits.1)) refl
+    followed (read_optional read_place (codes "span") j) _ (Some (Some range)) (Ok (Some range))
+    (reads_optional read_place json_of_span (codes "span") j (Some (Some range)) there (reads_range range.0 range.1 fits.0 fits.1)) refl
 
 -- ---- docs
 
 abbrev docs_from : Option (List ℕ) → Docs
 docs_from contents = record { contents = contents }
 
-reads_contents : (text : List ℕ) → contents_of (tagged (codes "contents") (json_of_text text)) ≡ Ok (docs_from (Some text))
-unfolding contents_of
+reads_contents : (text : List ℕ) → read_contents (tagged (codes "contents") (json_of_text text)) ≡ Ok (docs_from (Some text))
+unfolding read_contents
 reads_contents text =
-    all_1 (λ (text : List ℕ). docs_from (Some text)) (reads_alone text_of (codes "contents") (json_of_text text) text refl refl refl)
+    all_1 (λ (text : List ℕ). docs_from (Some text)) (reads_alone read_text (codes "contents") (json_of_text text) text refl refl refl)
 
-reads_docs_from : (contents : Option (List ℕ)) (j : Json) → get (codes "docs") j ≡ json_of_docs (docs_from contents) → docs_of j ≡ Ok (docs_from contents)
-unfolding docs_of
+reads_docs_from : (contents : Option (List ℕ)) (j : Json) → get (codes "docs") j ≡ json_of_docs (docs_from contents) → read_docs j ≡ Ok (docs_from contents)
+unfolding read_docs
 reads_docs_from None j there =
-    followed (optional contents_of (codes "docs") j) _ None (Ok (docs_from None)) (reads_optional contents_of (λ (d : Docs). json.null) (codes "docs") j None there tt) refl
+    followed (read_optional read_contents (codes "docs") j) _ None (Ok (docs_from None)) (reads_optional read_contents (λ (d : Docs). json.null) (codes "docs") j None there tt) refl
 reads_docs_from (Some text) j there =
-    followed (optional contents_of (codes "docs") j) _ (Some (docs_from (Some text))) (Ok (docs_from (Some text)))
-    (reads_optional contents_of (λ (d : Docs). tagged (codes "contents") (json_of_text text)) (codes "docs") j (Some (docs_from (Some text))) there (reads_contents text)) refl
+    followed (read_optional read_contents (codes "docs") j) _ (Some (docs_from (Some text))) (Ok (docs_from (Some text)))
+    (reads_optional read_contents (λ (d : Docs). tagged (codes "contents") (json_of_text text)) (codes "docs") j (Some (docs_from (Some text))) there (reads_contents text)) refl
 
 -- the docs of an item, which may be left out
-pub reads_docs : (docs : Docs) (j : Json) → get (codes "docs") j ≡ json_of_docs docs → docs_of j ≡ Ok docs
+pub reads_docs : (docs : Docs) (j : Json) → get (codes "docs") j ≡ json_of_docs docs → read_docs j ≡ Ok docs
 reads_docs docs j there = reads_docs_from docs.contents j there
 
 -- ---- gates
 
 reads_stable : (since : Parts) (deprecated : Option Parts) → IsValid since → IfSome deprecated IsValid
-    → stable_of (slots ((codes "since", Some (json_of_version since)) ∷ (codes "deprecated", option_map json_of_version deprecated) ∷ [])) ≡ Ok (Stable since deprecated)
-unfolding stable_of
+    → read_stable (slots ((codes "since", Some (json_of_version since)) ∷ (codes "deprecated", option_map json_of_version deprecated) ∷ [])) ≡ Ok (Stable since deprecated)
+unfolding read_stable
 reads_stable since deprecated valid valid_too =
     let ss : List Slot = (codes "since", Some (json_of_version since)) ∷ (codes "deprecated", option_map json_of_version deprecated) ∷ [] in
     let j = slots ss in
     all_3 (λ (_ : Unit {0}) (since : Parts) (deprecated : Option Parts). Stable since deprecated)
     (only_slots (codes "since" ∷ codes "deprecated" ∷ []) ss refl)
-    (reads_required version_of (codes "since") j (json_of_version since) since (get_slot (codes "since") ss) (reads_version since valid))
-    (reads_optional version_of json_of_version (codes "deprecated") j deprecated (get_slot (codes "deprecated") ss) (reads_versions deprecated valid_too))
+    (reads_required read_version (codes "since") j (json_of_version since) since (get_slot (codes "since") ss) (reads_version since valid))
+    (reads_optional read_version json_of_version (codes "deprecated") j deprecated (get_slot (codes "deprecated") ss) (reads_versions deprecated valid_too))
 
 reads_unstable : (feature : List ℕ) (deprecated : Option Parts) → IfSome deprecated IsValid
-    → unstable_of (slots ((codes "feature", Some (json_of_text feature)) ∷ (codes "deprecated", option_map json_of_version deprecated) ∷ [])) ≡ Ok (Unstable feature deprecated)
-unfolding unstable_of
+    → read_unstable (slots ((codes "feature", Some (json_of_text feature)) ∷ (codes "deprecated", option_map json_of_version deprecated) ∷ [])) ≡ Ok (Unstable feature deprecated)
+unfolding read_unstable
 reads_unstable feature deprecated valid =
     let ss : List Slot = (codes "feature", Some (json_of_text feature)) ∷ (codes "deprecated", option_map json_of_version deprecated) ∷ [] in
     let j = slots ss in
     all_3 (λ (_ : Unit {0}) (feature : List ℕ) (deprecated : Option Parts). Unstable feature deprecated)
     (only_slots (codes "feature" ∷ codes "deprecated" ∷ []) ss refl)
-    (reads_required text_of (codes "feature") j (json_of_text feature) feature (get_slot (codes "feature") ss) refl)
-    (reads_optional version_of json_of_version (codes "deprecated") j deprecated (get_slot (codes "deprecated") ss) (reads_versions deprecated valid))
+    (reads_required read_text (codes "feature") j (json_of_text feature) feature (get_slot (codes "feature") ss) refl)
+    (reads_optional read_version json_of_version (codes "deprecated") j deprecated (get_slot (codes "deprecated") ss) (reads_versions deprecated valid))
 
 -- a gate, `null` where there is none
-pub reads_gate : (gate : Stability) → IsWritableGate gate → gate_of (json_of_gate gate) ≡ Ok gate
-unfolding gate_of
+pub reads_gate : (gate : Stability) → IsWritableGate gate → read_any_gate (json_of_gate gate) ≡ Ok gate
+unfolding read_any_gate
 reads_gate Unknown fits = refl
-reads_gate (Stable since deprecated) fits = reads_variant gate_by expected.Gate (codes "stable")
+reads_gate (Stable since deprecated) fits = reads_variant read_gate_by expected.Gate (codes "stable")
     (slots ((codes "since", Some (json_of_version since)) ∷ (codes "deprecated", option_map json_of_version deprecated) ∷ [])) (Stable since deprecated) (reads_stable since deprecated fits.0 fits.1)
-reads_gate (Unstable feature deprecated) fits = reads_variant gate_by expected.Gate (codes "unstable")
+reads_gate (Unstable feature deprecated) fits = reads_variant read_gate_by expected.Gate (codes "unstable")
     (slots ((codes "feature", Some (json_of_text feature)) ∷ (codes "deprecated", option_map json_of_version deprecated) ∷ [])) (Unstable feature deprecated) (reads_unstable feature deprecated fits)
 
 -- the gate of an item, which may be left out
-pub reads_stability : (gate : Stability) (j : Json) → IsWritableGate gate → get (codes "stability") j ≡ json_of_stability gate → stability_of j ≡ Ok gate
-unfolding stability_of
+pub reads_stability : (gate : Stability) (j : Json) → IsWritableGate gate → get (codes "stability") j ≡ json_of_stability gate → read_stability j ≡ Ok gate
+unfolding read_stability
 reads_stability Unknown j fits there =
-    followed (optional gate_of (codes "stability") j) _ None (Ok Unknown) (reads_optional gate_of json_of_gate (codes "stability") j None there tt) refl
+    followed (read_optional read_any_gate (codes "stability") j) _ None (Ok Unknown) (reads_optional read_any_gate json_of_gate (codes "stability") j None there tt) refl
 reads_stability (Stable since deprecated) j fits there =
     let gate = Stable since deprecated in
-    followed (optional gate_of (codes "stability") j) _ (Some gate) (Ok gate) (reads_optional gate_of json_of_gate (codes "stability") j (Some gate) there (reads_gate gate fits)) refl
+    followed (read_optional read_any_gate (codes "stability") j) _ (Some gate) (Ok gate) (reads_optional read_any_gate json_of_gate (codes "stability") j (Some gate) there (reads_gate gate fits)) refl
 reads_stability (Unstable feature deprecated) j fits there =
     let gate = Unstable feature deprecated in
-    followed (optional gate_of (codes "stability") j) _ (Some gate) (Ok gate) (reads_optional gate_of json_of_gate (codes "stability") j (Some gate) there (reads_gate gate fits)) refl
+    followed (read_optional read_any_gate (codes "stability") j) _ (Some gate) (Ok gate) (reads_optional read_any_gate json_of_gate (codes "stability") j (Some gate) there (reads_gate gate fits)) refl

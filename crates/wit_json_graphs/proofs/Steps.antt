@@ -13,9 +13,9 @@ use Rattle.wit_values.specs.facts.Lists.{slice_get-behind, slice_get-append}
 use Rattle.wit_data.specs.Each.{Each}
 use Rattle.wit_json.specs.Values.{members_of, object_under_names, pair, tagged}
 use Rattle.wit_json.specs.Values as written
-use Rattle.wit_json_reading.specs.Objects.{alone, pair_of, variant_of}
-use Rattle.wit_json_reading.specs.Reading.{Reading, ◌>>=◌, has_to_be_there, if_there, instead_of, items_from, list_of, only, optional, required, under, without}
-use Rattle.wit_json_reading.specs.Tables.{named_from, named_of}
+use Rattle.wit_json_reading.specs.Objects.{alone, read_pair, read_variant}
+use Rattle.wit_json_reading.specs.Reading.{Reading, ◌>>=◌, has_to_be_there, if_there, instead_of, items_from, read_list, only, read_optional, read_required, under, read_leaving_out}
+use Rattle.wit_json_reading.specs.Tables.{named_from, read_named}
 use Rattle.wit_json_reading.specs.declared.fault.Expected.{Expected}
 use Rattle.wit_json_reading.specs.declared.fault.Expected.TheVariants as expected
 use Rattle.wit_json_reading.specs.declared.fault.Step.TheVariants as step
@@ -83,7 +83,7 @@ all_11 {m0 = m0} {m1 = m1} {m2 = m2} {m3 = m3} {m4 = m4} {m5 = m5} {m6 = m6} {m7
     followed m0 (λ x0. m1 >>= λ x1. m2 >>= λ x2. m3 >>= λ x3. m4 >>= λ x4. m5 >>= λ x5. m6 >>= λ x6. m7 >>= λ x7. m8 >>= λ x8. m9 >>= λ x9. m10 >>= λ x10. Ok (f x0 x1 x2 x3 x4 x5 x6 x7 x8 x9 x10)) v0 (Ok (f v0 v1 v2 v3 v4 v5 v6 v7 v8 v9 v10)) e0 (all_10 {m0 = m1} {m1 = m2} {m2 = m3} {m3 = m4} {m4 = m5} {m5 = m6} {m6 = m7} {m7 = m8} {m8 = m9} {m9 = m10} (f v0) e1 e2 e3 e4 e5 e6 e7 e8 e9 e10)
 
 module _ {A : Type 0} where
-  pub reads_required : (f : Json → Reading A) (name : List ℕ) (j v : Json) (x : A) → get name j ≡ Some v → f v ≡ Ok x → required f name j ≡ Ok x
+  pub reads_required : (f : Json → Reading A) (name : List ℕ) (j v : Json) (x : A) → get name j ≡ Some v → f v ≡ Ok x → read_required f name j ≡ Ok x
   reads_required f name j v x there reads = ap (has_to_be_there f name) there ∙ ap (under (step.Member name)) reads
 
   reads_there : (f : Json → Reading A) (w : A → Json) (name : List ℕ) (o : Option A) → IfSome o (λ x. f (w x) ≡ Ok x) → if_there f name (option_map w o) ≡ Ok o
@@ -91,18 +91,18 @@ module _ {A : Type 0} where
   reads_there f w name (Some x) reads = ap (λ (r : Reading A). under (step.Member name) r >>= λ y. Ok (Some y)) reads
 
   pub reads_optional : (f : Json → Reading A) (w : A → Json) (name : List ℕ) (j : Json) (o : Option A) → get name j ≡ option_map w o → IfSome o (λ x. f (w x) ≡ Ok x)
-      → optional f name j ≡ Ok o
+      → read_optional f name j ≡ Ok o
   reads_optional f w name j o there reads = ap (if_there f name) there ∙ reads_there f w name o reads
 
   pub reads_alone : (f : Json → Reading A) (name : List ℕ) (j : Json) (x : A) → only (name ∷ []) (tagged name j) ≡ Ok tt → get name (tagged name j) ≡ Some j → f j ≡ Ok x
       → alone f name (tagged name j) ≡ Ok x
-  reads_alone f name j x known there reads = followed (only (name ∷ []) (tagged name j)) (λ _. required f name (tagged name j)) tt (Ok x) known (reads_required f name (tagged name j) j x there reads)
+  reads_alone f name j x known there reads = followed (only (name ∷ []) (tagged name j)) (λ _. read_required f name (tagged name j)) tt (Ok x) known (reads_required f name (tagged name j) j x there reads)
 
-  pub reads_without : (f : Json → Reading A) (name : List ℕ) (j : Json) (x : A) → get name j ≡ None → f j ≡ Ok x → without name f j ≡ Ok x
+  pub reads_without : (f : Json → Reading A) (name : List ℕ) (j : Json) (x : A) → get name j ≡ None → f j ≡ Ok x → read_leaving_out name f j ≡ Ok x
   reads_without f name j x none reads =
       ap (λ (o : Option Json). if is_some o then under (step.Member name) (instead_of expected.NoMember) else f j) none ∙ reads
 
-  pub reads_variant : (f : List ℕ → Json → Reading A) (e : Expected) (name : List ℕ) (j : Json) (x : A) → f name j ≡ Ok x → variant_of f e (tagged name j) ≡ Ok x
+  pub reads_variant : (f : List ℕ → Json → Reading A) (e : Expected) (name : List ℕ) (j : Json) (x : A) → f name j ≡ Ok x → read_variant f e (tagged name j) ≡ Ok x
   reads_variant f e name j x reads = ap (under (step.Member name)) reads
 
 -- ---- lists and pairs
@@ -114,7 +114,7 @@ module _ {A : Type 0} (f : Json → Reading A) (w : A → Json) where
       followed (under (step.Item n) (f (w x))) _ x (Ok (x ∷ xs)) (ap (under (step.Item n)) (each 0 x refl))
       (followed (items_from f (suc n) (items_of (map w xs))) _ xs (Ok (x ∷ xs)) (reads_items (suc n) xs (λ i y at. each (suc i) y at)) refl)
 
-  pub reads_list : (xs : List A) → Each (λ x. f (w x) ≡ Ok x) xs → list_of f (written.list_of w xs) ≡ Ok xs
+  pub reads_list : (xs : List A) → Each (λ x. f (w x) ≡ Ok x) xs → read_list f (written.list_of w xs) ≡ Ok xs
   reads_list xs each = reads_items 0 xs each
 
 module _ {A : Type 0} (f : Json → Reading A) (b : A → A) (w : A → Json) where
@@ -125,11 +125,11 @@ module _ {A : Type 0} (f : Json → Reading A) (b : A → A) (w : A → Json) wh
       (followed (items_from f (suc n) (items_of (map w xs))) _ (map b xs) (Ok (b x ∷ map b xs)) (reads_items_as (suc n) xs (λ i y at. each (suc i) y at)) refl)
 
   -- what is written of each reads as something that is made of it
-  pub reads_list_as : (xs : List A) → Each (λ x. f (w x) ≡ Ok (b x)) xs → list_of f (written.list_of w xs) ≡ Ok (map b xs)
+  pub reads_list_as : (xs : List A) → Each (λ x. f (w x) ≡ Ok (b x)) xs → read_list f (written.list_of w xs) ≡ Ok (map b xs)
   reads_list_as xs each = reads_items_as 0 xs each
 
 module _ {A B : Type 0} where
-  pub reads_pair : (f : Json → Reading A) (g : Json → Reading B) (a b : Json) (x : A) (y : B) → f a ≡ Ok x → g b ≡ Ok y → pair_of f g (pair a b) ≡ Ok (x, y)
+  pub reads_pair : (f : Json → Reading A) (g : Json → Reading B) (a b : Json) (x : A) (y : B) → f a ≡ Ok x → g b ≡ Ok y → read_pair f g (pair a b) ≡ Ok (x, y)
   reads_pair f g a b x y first second =
       followed (under (step.Item 0) (f a)) _ x (Ok (x, y)) (ap (under (step.Item 0)) first) (followed (under (step.Item 1) (g b)) _ y (Ok (x, y)) (ap (under (step.Item 1)) second) refl)
 
@@ -167,5 +167,5 @@ module _ {A : Type 0} (f : Json → Reading A) (w : A → Json) where
       rw new (followed (under (step.Member e.0) (f (w e.1))) _ e.1 (Ok (before ++ e ∷ es)) (ap (under (step.Member e.0)) (each 0 e refl))
       (reads_entries (before ++ e ∷ []) es (subst (λ (all : List (List ℕ × A)). HasDistinctKeys all) (sym longer) distinct) (λ i y at. each (suc i) y at) ∙ ap Ok longer))
 
-  pub reads_named : (es : List (List ℕ × A)) → HasDistinctKeys es → Each (λ (e : List ℕ × A). f (w e.1) ≡ Ok e.1) es → named_of f (object_under_names w es) ≡ Ok es
+  pub reads_named : (es : List (List ℕ × A)) → HasDistinctKeys es → Each (λ (e : List ℕ × A). f (w e.1) ≡ Ok e.1) es → read_named f (object_under_names w es) ≡ Ok es
   reads_named es distinct each = reads_entries [] es distinct each

@@ -20,9 +20,9 @@ use Rattle.wit_data.specs.declared.world.WorldItem.TheVariants as item
 use Rattle.wit_data.specs.declared.world.WorldKey.{WorldKey}
 use Rattle.wit_graph_data.specs.declared.graph.Graph.{Graph}
 use Rattle.wit_json.specs.Worlds.{entry_name}
-use Rattle.wit_json_reading.specs.Gates.{docs_of, place_of, span_of}
-use Rattle.wit_json_reading.specs.Reading.{Reading, ◌>>=◌, instead_of, only, optional, required, under}
-use Rattle.wit_json_reading.specs.Values.{text_of}
+use Rattle.wit_json_reading.specs.Gates.{read_docs, read_place, read_span}
+use Rattle.wit_json_reading.specs.Reading.{Reading, ◌>>=◌, instead_of, only, read_optional, read_required, under}
+use Rattle.wit_json_reading.specs.Values.{read_text}
 use Rattle.wit_json_reading.specs.declared.fault.Expected.TheVariants as expected
 use Rattle.wit_json_reading.specs.declared.fault.Step.TheVariants as step
 
@@ -47,7 +47,9 @@ abbrev pub entries_with : {K A : Type 0} → (K → List ℕ) → (A → Json �
     → Members → Reading (List (K × A))
 entries_with name f [] json.no_members = Ok []
 entries_with name f (e ∷ es) (json.member key j ms) =
-    if bytes_eq key (name e.0) then (under (step.Member key) (f e.1 j) >>= λ x. entries_with name f es ms >>= λ more. Ok ((e.0, x) ∷ more))
+    if bytes_eq key (name e.0)
+    then (under (step.Member key) (f e.1 j) >>= λ x. entries_with name f es ms
+    >>= λ more. Ok ((e.0, x) ∷ more))
     else instead_of expected.Details
 entries_with name f es ms = instead_of expected.Details
 
@@ -64,55 +66,58 @@ named_with f es j = table_with (λ (name : List ℕ). name) f es j
 -- ---- types
 
 unfoldable pub field_with : Field → Json → Reading Field
-field_with f j = place_of j >>= λ span. Ok (record f { span = span })
+field_with f j = read_place j >>= λ span. Ok (record f { span = span })
 
 unfoldable pub flag_with : Flag → Json → Reading Flag
-flag_with f j = place_of j >>= λ span. Ok (record f { span = span })
+flag_with f j = read_place j >>= λ span. Ok (record f { span = span })
 
 unfoldable pub case_with : Case → Json → Reading Case
-case_with c j = place_of j >>= λ span. Ok (record c { span = span })
+case_with c j = read_place j >>= λ span. Ok (record c { span = span })
 
 unfoldable pub enum_case_with : EnumCase → Json → Reading EnumCase
-enum_case_with c j = place_of j >>= λ span. Ok (record c { span = span })
+enum_case_with c j = read_place j >>= λ span. Ok (record c { span = span })
 
 -- the fields, the flags or the cases of a type that has some; of another type there is nothing to say
 unfoldable pub kind_with : TypeDefKind → Json → Reading TypeDefKind
 kind_with (kind.Record fields) j =
-    required (list_with field_with fields) (codes "parts") j >>= λ parts. Ok (kind.Record parts)
+    read_required (list_with field_with fields) (codes "parts") j >>=
+    λ parts. Ok (kind.Record parts)
 kind_with (kind.Flags flags) j =
-    required (list_with flag_with flags) (codes "parts") j >>= λ parts. Ok (kind.Flags parts)
+    read_required (list_with flag_with flags) (codes "parts") j >>= λ parts. Ok (kind.Flags parts)
 kind_with (kind.Variant cases) j =
-    required (list_with case_with cases) (codes "parts") j >>= λ parts. Ok (kind.Variant parts)
+    read_required (list_with case_with cases) (codes "parts") j >>= λ parts. Ok (kind.Variant parts)
 kind_with (kind.Enum cases) j =
-    required (list_with enum_case_with cases) (codes "parts") j >>= λ parts. Ok (kind.Enum parts)
+    read_required (list_with enum_case_with cases) (codes "parts") j >>=
+    λ parts. Ok (kind.Enum parts)
 kind_with k j = only (codes "span" ∷ codes "external-id" ∷ []) j >>= λ _. Ok k
 
-unfoldable pub type_with : TypeDef → Json → Reading TypeDef
-type_with def j = do
+unfoldable pub type_with_details : TypeDef → Json → Reading TypeDef
+type_with_details def j = do
   _ ← only (codes "span" ∷ codes "external-id" ∷ codes "parts" ∷ []) j
-  span ← span_of j
-  external_id ← optional text_of (codes "external-id") j
+  span ← read_span j
+  external_id ← read_optional read_text (codes "external-id") j
   k ← kind_with def.kind j
   Ok (record def { span = span; external_id = external_id; kind = k })
 
 -- ---- functions and interfaces
 
 unfoldable pub param_with : Param → Json → Reading Param
-param_with p j = place_of j >>= λ span. Ok (record p { span = span })
+param_with p j = read_place j >>= λ span. Ok (record p { span = span })
 
-unfoldable pub function_with : Function → Json → Reading Function
-function_with f j = do
+unfoldable pub function_with_details : Function → Json → Reading Function
+function_with_details f j = do
   _ ← only (codes "span" ∷ codes "external-id" ∷ codes "params" ∷ []) j
-  span ← span_of j
-  external_id ← optional text_of (codes "external-id") j
-  params ← required (list_with param_with f.params) (codes "params") j
+  span ← read_span j
+  external_id ← read_optional read_text (codes "external-id") j
+  params ← read_required (list_with param_with f.params) (codes "params") j
   Ok (record f { span = span; external_id = external_id; params = params })
 
 unfoldable pub interface_with : Interface → Json → Reading Interface
 interface_with interface j = do
   _ ← only (codes "span" ∷ codes "functions" ∷ []) j
-  span ← span_of j
-  functions ← required (named_with function_with interface.functions) (codes "functions") j
+  span ← read_span j
+  functions ← read_required (named_with function_with_details interface.functions)
+      (codes "functions") j
   Ok (record interface { span = span; functions = functions })
 
 -- ---- worlds
@@ -121,22 +126,22 @@ interface_with interface j = do
 unfoldable pub entry_with : Json → Reading (Docs × Option (ℕ × ℕ) × Option (List ℕ))
 entry_with j = do
   _ ← only (codes "docs" ∷ codes "span" ∷ codes "external-id" ∷ []) j
-  docs ← docs_of j
-  span ← span_of j
-  external_id ← optional text_of (codes "external-id") j
+  docs ← read_docs j
+  span ← read_span j
+  external_id ← read_optional read_text (codes "external-id") j
   Ok (docs, span, external_id)
 
 -- the span of a type of a world
 unfoldable pub span_alone : Json → Reading (Option (ℕ × ℕ))
 span_alone j = do
   _ ← only (codes "span" ∷ []) j
-  span_of j
+  read_span j
 
 -- what a world imports or exports
 unfoldable pub item_with : WorldItem → Json → Reading WorldItem
 item_with (item.Interface id stability _ _ _) j =
     entry_with j >>= λ e. Ok (item.Interface id stability e.0 e.1 e.2)
-item_with (item.Function f) j = function_with f j >>= λ g. Ok (item.Function g)
+item_with (item.Function f) j = function_with_details f j >>= λ g. Ok (item.Function g)
 item_with (item.Type_ id _) j = span_alone j >>= λ span. Ok (item.Type_ id span)
 
 abbrev pub items_with : List (WorldKey × WorldItem) → Json → Reading (List (WorldKey × WorldItem))
@@ -145,9 +150,9 @@ items_with entries j = table_with entry_name item_with entries j
 unfoldable pub world_with : World → Json → Reading World
 world_with world j = do
   _ ← only (codes "span" ∷ codes "imports" ∷ codes "exports" ∷ []) j
-  span ← span_of j
-  imports ← required (items_with world.imports) (codes "imports") j
-  exports ← required (items_with world.exports) (codes "exports") j
+  span ← read_span j
+  imports ← read_required (items_with world.imports) (codes "imports") j
+  exports ← read_required (items_with world.exports) (codes "exports") j
   Ok (record world { span = span; imports = imports; exports = exports })
 
 -- ---- graphs
@@ -155,7 +160,7 @@ world_with world j = do
 unfoldable pub graph_with : Graph → Json → Reading Graph
 graph_with graph j = do
   _ ← only (codes "worlds" ∷ codes "interfaces" ∷ codes "types" ∷ []) j
-  worlds ← required (list_with world_with graph.worlds) (codes "worlds") j
-  interfaces ← required (list_with interface_with graph.interfaces) (codes "interfaces") j
-  types ← required (list_with type_with graph.types) (codes "types") j
+  worlds ← read_required (list_with world_with graph.worlds) (codes "worlds") j
+  interfaces ← read_required (list_with interface_with graph.interfaces) (codes "interfaces") j
+  types ← read_required (list_with type_with_details graph.types) (codes "types") j
   Ok (record graph { worlds = worlds; interfaces = interfaces; types = types })

@@ -7,10 +7,10 @@ use Rattle.wit_names.specs.declared.track.TrackRule.TheVariants.{Published}
 use Rattle.wit_graph_data.specs.declared.features.Features.{Features}
 use Rattle.wit_graph_data.specs.declared.graph.Graph.{Graph}
 use Rattle.wit_sources.specs.SourceMap.{Sources}
-use Rattle.wit_json_reading.specs.Features.{features_of, rule_of}
-use Rattle.wit_json_reading.specs.Graphs.{graph_of}
-use Rattle.wit_json_reading.specs.Groups.{no_sources, sources_of}
-use Rattle.wit_json_reading.specs.Reading.{Reading, ◌>>=◌, only, optional, required, under}
+use Rattle.wit_json_reading.specs.Features.{read_features, read_rule}
+use Rattle.wit_json_reading.specs.Graphs.{read_graph}
+use Rattle.wit_json_reading.specs.Groups.{no_sources, read_sources}
+use Rattle.wit_json_reading.specs.Reading.{Reading, ◌>>=◌, only, read_optional, read_required, under}
 use Rattle.wit_json_reading.specs.declared.fault.Step.TheVariants as step
 use Rattle.wit_json_graphs.specs.Details.{graph_with}
 use Rattle.wit_json_graphs.specs.declared.resolves.ResolveParts.{ResolveParts}
@@ -26,27 +26,27 @@ no_features = record { names = []; all = false }
 -- no feature is on where they are left out
 unfoldable pub features_beside : Json → Reading Features
 features_beside j = do
-  features ← optional features_of (codes "features") j
+  features ← read_optional read_features (codes "features") j
   Ok (unwrap_or features no_features)
 
 -- the published rule where it is left out
 unfoldable pub rule_beside : Json → Reading TrackRule
 rule_beside j = do
-  rule ← optional rule_of (codes "track-rule") j
+  rule ← read_optional read_rule (codes "track-rule") j
   Ok (unwrap_or rule Published)
 
 -- no file where they are left out
 unfoldable pub sources_beside : Json → Reading Sources
 sources_beside j = do
-  sources ← optional sources_of (codes "sources") j
+  sources ← read_optional read_sources (codes "sources") j
   Ok (unwrap_or sources no_sources)
 
 -- all but the graph may be left out; without details, spans, external ids and docs of entries are those in the graph itself
-unfoldable pub resolve_of : Json → Reading ResolveParts
-resolve_of j = do
+unfoldable pub read_resolve : Json → Reading ResolveParts
+read_resolve j = do
   _ ← only (codes "graph" ∷ codes "details" ∷ codes "features" ∷ codes "track-rule"
       ∷ codes "sources" ∷ []) j
-  graph ← required graph_of (codes "graph") j
+  graph ← read_required read_graph (codes "graph") j
   whole ← with_details graph (get (codes "details") j)
   features ← features_beside j
   rule ← rule_beside j

@@ -3,7 +3,7 @@ ghost use Rattle.std.specs.Prelude.{◌≡◌, ◌<◌, ℕ, IfOk, bytes_eq, len
 ghost use Rattle.json.specs.Json.{Json};
 ghost use Rattle.json.specs.Value.{value_view};
 ghost use Rattle.wit_json.specs.Worlds.{entry_name};
-ghost use Rattle.wit_json_reading.specs.Reading.{Reading, required, under};
+ghost use Rattle.wit_json_reading.specs.Reading.{Reading, read_required, under};
 ghost use Rattle.wit_json_reading.specs.declared.fault.Step.TheVariants.{Member};
 ghost use Rattle.wit_json_graphs.specs.Details.{items_with, list_with, named_with};
 ghost use Rattle.wit_json_graphs.specs.steps.Completes.{Completes};
@@ -32,8 +32,8 @@ pub(crate) fn required_details<T: ReadDetails>(
     name: &str,
     thing: &mut T,
 ) -> Result<(), ReadError>
-    ensures { Completes result (required (T.detailed thing.old) name.now (value_view value.now))
-        thing.new }
+    ensures { Completes result
+        (read_required (T.detailed thing.old) name.now (value_view value.now)) thing.new }
 {
     match value.get(name) {
         Some(details) => member_details(alloc, details, name, thing),

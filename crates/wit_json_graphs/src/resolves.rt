@@ -3,7 +3,7 @@ ghost use Rattle.std.specs.Prelude.{codes};
 ghost use Rattle.json.specs.Value.{value_view};
 ghost use Rattle.json.specs.Find.{get};
 ghost use Rattle.wit_json_reading.specs.Reading.{Reads};
-ghost use Rattle.wit_json_graphs.specs.Resolves.{features_beside, resolve_of, rule_beside, sources_beside, with_details};
+ghost use Rattle.wit_json_graphs.specs.Resolves.{features_beside, read_resolve, rule_beside, sources_beside, with_details};
 
 use crate::details::member_details;
 use json::Value;
@@ -65,9 +65,9 @@ fn rule(alloc: Global, value: &Value<'_>) -> Result<TrackRule, ReadError>
 }
 
 impl ReadJson for ResolveParts {
-    ghost reading = { resolve_of };
+    ghost reading = { read_resolve };
 
-    #[tactic(auto, unfolding(crate::specs::Resolves::resolve_of))]
+    #[tactic(auto, unfolding(crate::specs::Resolves::read_resolve))]
     fn read_json(alloc: Global, value: &Value<'_>) -> Result<ResolveParts, ReadError> {
         only(
             alloc,

@@ -1,7 +1,7 @@
 //! The details of each sort of thing.
 ghost use Rattle.json.specs.Value.{value_view};
 ghost use Rattle.wit_json_graphs.specs.steps.Completes.{Completes};
-ghost use Rattle.wit_json_graphs.specs.Details.{case_with, entry_with, enum_case_with, field_with, flag_with, function_with, graph_with, interface_with, item_with, kind_with, param_with, span_alone, type_with, world_with};
+ghost use Rattle.wit_json_graphs.specs.Details.{case_with, entry_with, enum_case_with, field_with, flag_with, function_with_details, graph_with, interface_with, item_with, kind_with, param_with, span_alone, type_with_details, world_with};
 
 use crate::details::{ReadDetails, required_details};
 use json::Value;
@@ -69,9 +69,9 @@ impl ReadDetails for TypeDefKind {
 }
 
 impl ReadDetails for TypeDef {
-    ghost detailed = { type_with };
+    ghost detailed = { type_with_details };
 
-    #[tactic(auto, unfolding(crate::specs::Details::type_with))]
+    #[tactic(auto, unfolding(crate::specs::Details::type_with_details))]
     fn read_details(&mut self, alloc: Global, value: &Value<'_>) -> Result<(), ReadError> {
         only(alloc, value, &["span", "external-id", "parts"])?;
         self.span = span(alloc, value)?;
@@ -91,9 +91,9 @@ impl ReadDetails for Param {
 }
 
 impl ReadDetails for Function {
-    ghost detailed = { function_with };
+    ghost detailed = { function_with_details };
 
-    #[tactic(auto, unfolding(crate::specs::Details::function_with))]
+    #[tactic(auto, unfolding(crate::specs::Details::function_with_details))]
     fn read_details(&mut self, alloc: Global, value: &Value<'_>) -> Result<(), ReadError> {
         only(alloc, value, &["span", "external-id", "params"])?;
         self.span = span(alloc, value)?;

@@ -9,5 +9,5 @@ if_document f None = instead_of expected.Document
 if_document f (Some j) = f j
 
 -- what the value reads as that a whole text is
-abbrev pub reading_of : {A : Type 0} → (Json → Reading A) → List ℕ → Reading A
-reading_of f text = if_document f (document text)
+abbrev pub read_from : {A : Type 0} → (Json → Reading A) → List ℕ → Reading A
+read_from f text = if_document f (document text)

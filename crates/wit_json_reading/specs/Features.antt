@@ -5,28 +5,28 @@ use Rattle.json.specs.Json.{Json}
 use Rattle.wit_names.specs.declared.track.TrackRule.{TrackRule}
 use Rattle.wit_names.specs.declared.track.TrackRule.TheVariants.{Published, WithPrereleases}
 use Rattle.wit_graph_data.specs.declared.features.Features.{Features}
-use Rattle.wit_json_reading.specs.Reading.{Reading, ◌>>=◌, instead_of, list_of, only, required}
-use Rattle.wit_json_reading.specs.Values.{boolean_of, text_of}
+use Rattle.wit_json_reading.specs.Reading.{Reading, ◌>>=◌, instead_of, read_list, only, read_required}
+use Rattle.wit_json_reading.specs.Values.{read_boolean, read_text}
 use Rattle.wit_json_reading.specs.declared.fault.Expected.TheVariants as expected
 
 -- a name behind those that are there, unless it is one of them
-abbrev pub with_name : List (List ℕ) → List ℕ → List (List ℕ)
-with_name names name = if list_any (bytes_eq name) names then names else names ++ name ∷ []
+abbrev pub names_with_one : List (List ℕ) → List ℕ → List (List ℕ)
+names_with_one names name = if list_any (bytes_eq name) names then names else names ++ name ∷ []
 
-abbrev pub with_names : List (List ℕ) → List (List ℕ) → List (List ℕ)
-with_names names [] = names
-with_names names (text ∷ texts) = with_names (with_name names text) texts
+abbrev pub names_with : List (List ℕ) → List (List ℕ) → List (List ℕ)
+names_with names [] = names
+names_with names (text ∷ texts) = names_with (names_with_one names text) texts
 
 -- names, of which one that stands twice counts once
-unfoldable pub names_of : Json → Reading (List (List ℕ))
-names_of j = list_of text_of j >>= λ texts. Ok (with_names [] texts)
+unfoldable pub read_names : Json → Reading (List (List ℕ))
+read_names j = read_list read_text j >>= λ texts. Ok (names_with [] texts)
 
 -- the features that are on: all, or those that are named
-unfoldable pub features_of : Json → Reading Features
-features_of j = do
+unfoldable pub read_features : Json → Reading Features
+read_features j = do
   _ ← only (codes "all" ∷ codes "names" ∷ []) j
-  all ← required boolean_of (codes "all") j
-  names ← required names_of (codes "names") j
+  all ← read_required read_boolean (codes "all") j
+  names ← read_required read_names (codes "names") j
   Ok (record { names = names; all = all })
 
 abbrev pub rule_in : List ℕ → Reading TrackRule
@@ -36,5 +36,5 @@ rule_in word =
     else instead_of expected.TrackRule
 
 -- a rule of tracks by its name
-unfoldable pub rule_of : Json → Reading TrackRule
-rule_of j = text_of j >>= λ word. rule_in word
+unfoldable pub read_rule : Json → Reading TrackRule
+read_rule j = read_text j >>= λ word. rule_in word

@@ -6,16 +6,16 @@ use Rattle.wit_data.specs.declared.function.Function.{Function}
 use Rattle.wit_data.specs.declared.function.FunctionKind.{FunctionKind}
 use Rattle.wit_data.specs.declared.function.FunctionKind.TheVariants as function
 use Rattle.wit_data.specs.declared.function.Param.{Param}
-use Rattle.wit_json_reading.specs.Gates.{docs_of, span_of, stability_of}
-use Rattle.wit_json_reading.specs.Objects.{variant_of}
-use Rattle.wit_json_reading.specs.Reading.{Reading, ◌>>=◌, instead_of, list_of, only, optional, required}
-use Rattle.wit_json_reading.specs.Types.{type_of}
-use Rattle.wit_json_reading.specs.Values.{number_of, text_of}
+use Rattle.wit_json_reading.specs.Gates.{read_docs, read_span, read_stability}
+use Rattle.wit_json_reading.specs.Objects.{read_variant}
+use Rattle.wit_json_reading.specs.Reading.{Reading, ◌>>=◌, instead_of, read_list, only, read_optional, read_required}
+use Rattle.wit_json_reading.specs.Types.{read_type}
+use Rattle.wit_json_reading.specs.Values.{read_number, read_text}
 use Rattle.wit_json_reading.specs.declared.fault.Expected.TheVariants as expected
 
 -- a kind without a resource
-abbrev pub plain_function_kind_of : List ℕ → Reading FunctionKind
-plain_function_kind_of word =
+abbrev pub read_plain_function_kind : List ℕ → Reading FunctionKind
+read_plain_function_kind word =
     if bytes_eq word (codes "freestanding") then Ok function.Freestanding
     else if bytes_eq word (codes "async-freestanding") then Ok function.AsyncFreestanding
     else if bytes_eq word (codes "getter") then Ok function.Getter
@@ -23,8 +23,8 @@ plain_function_kind_of word =
     else instead_of expected.FunctionKind
 
 -- a kind of a resource's function
-abbrev pub resource_kind_of : List ℕ → ℕ → Reading FunctionKind
-resource_kind_of name id =
+abbrev pub read_resource_kind : List ℕ → ℕ → Reading FunctionKind
+read_resource_kind name id =
     if bytes_eq name (codes "method") then Ok (function.Method id)
     else if bytes_eq name (codes "async-method") then Ok (function.AsyncMethod id)
     else if bytes_eq name (codes "static") then Ok (function.Static id)
@@ -36,40 +36,40 @@ resource_kind_of name id =
     else if bytes_eq name (codes "static-setter") then Ok (function.StaticSetter id)
     else instead_of expected.FunctionKind
 
-unfoldable pub function_kind_by : List ℕ → Json → Reading FunctionKind
-function_kind_by name j = do
-  id ← number_of j
-  resource_kind_of name id
+unfoldable pub read_function_kind_by : List ℕ → Json → Reading FunctionKind
+read_function_kind_by name j = do
+  id ← read_number j
+  read_resource_kind name id
 
 -- what a function is: a word, or a word with the id of its resource
-unfoldable pub function_kind_of : Json → Reading FunctionKind
-function_kind_of (json.string word) = plain_function_kind_of word
-function_kind_of j = variant_of function_kind_by expected.FunctionKind j
+unfoldable pub read_function_kind : Json → Reading FunctionKind
+read_function_kind (json.string word) = read_plain_function_kind word
+read_function_kind j = read_variant read_function_kind_by expected.FunctionKind j
 
-unfoldable pub param_of : Json → Reading Param
-param_of j = do
+unfoldable pub read_param : Json → Reading Param
+read_param j = do
   _ ← only (codes "name" ∷ codes "type" ∷ codes "span" ∷ []) j
-  name ← required text_of (codes "name") j
-  ty ← required type_of (codes "type") j
-  span ← span_of j
+  name ← read_required read_text (codes "name") j
+  ty ← read_required read_type (codes "type") j
+  span ← read_span j
   Ok (record { name = name; ty = ty; span = span })
 
-abbrev pub function_names : List (List ℕ)
-function_names =
+abbrev pub function_members : List (List ℕ)
+function_members =
     codes "name" ∷ codes "kind" ∷ codes "params" ∷ codes "result" ∷ codes "docs" ∷ codes "stability"
     ∷ codes "span" ∷ codes "external-id" ∷ []
 
-unfoldable pub function_of : Json → Reading Function
-function_of j = do
-  _ ← only function_names j
-  name ← required text_of (codes "name") j
-  kind ← required function_kind_of (codes "kind") j
-  params ← required (list_of param_of) (codes "params") j
-  result ← optional type_of (codes "result") j
-  docs ← docs_of j
-  stability ← stability_of j
-  span ← span_of j
-  external_id ← optional text_of (codes "external-id") j
+unfoldable pub read_function : Json → Reading Function
+read_function j = do
+  _ ← only function_members j
+  name ← read_required read_text (codes "name") j
+  kind ← read_required read_function_kind (codes "kind") j
+  params ← read_required (read_list read_param) (codes "params") j
+  result ← read_optional read_type (codes "result") j
+  docs ← read_docs j
+  stability ← read_stability j
+  span ← read_span j
+  external_id ← read_optional read_text (codes "external-id") j
   Ok (record {
     name = name;
     kind = kind;

@@ -5,72 +5,72 @@ use Rattle.json.specs.Json as json
 use Rattle.wit_data.specs.declared.stability.Docs.{Docs}
 use Rattle.wit_data.specs.declared.stability.Stability.{Stability}
 use Rattle.wit_data.specs.declared.stability.Stability.TheVariants.{Unknown, Stable, Unstable}
-use Rattle.wit_json_reading.specs.Reading.{Reading, ◌>>=◌, instead_of, only, optional, required}
-use Rattle.wit_json_reading.specs.Objects.{alone, pair_of, variant_of}
-use Rattle.wit_json_reading.specs.Values.{small_number_of, text_of, version_of}
+use Rattle.wit_json_reading.specs.Reading.{Reading, ◌>>=◌, instead_of, only, read_optional, read_required}
+use Rattle.wit_json_reading.specs.Objects.{alone, read_pair, read_variant}
+use Rattle.wit_json_reading.specs.Values.{read_small_number, read_text, read_version}
 use Rattle.wit_json_reading.specs.declared.fault.Expected.TheVariants as expected
 
 -- `[start, end]`
-unfoldable pub range_of : Json → Reading (Option (ℕ × ℕ))
-range_of j = do
-  range ← pair_of small_number_of small_number_of j
+unfoldable pub read_range : Json → Reading (Option (ℕ × ℕ))
+read_range j = do
+  range ← read_pair read_small_number read_small_number j
   if nat_le range.0 range.1 then Ok (Some range) else instead_of expected.Span
 
 -- `null` where it is unknown
-unfoldable pub place_of : Json → Reading (Option (ℕ × ℕ))
-place_of json.null = Ok None
-place_of j = range_of j
+unfoldable pub read_place : Json → Reading (Option (ℕ × ℕ))
+read_place json.null = Ok None
+read_place j = read_range j
 
 -- the span of an item, unknown where it is left out
-unfoldable pub span_of : Json → Reading (Option (ℕ × ℕ))
-span_of j = do
-  span ← optional place_of (codes "span") j
+unfoldable pub read_span : Json → Reading (Option (ℕ × ℕ))
+read_span j = do
+  span ← read_optional read_place (codes "span") j
   Ok (unwrap_or span None)
 
 -- `{"contents": text}`
-unfoldable pub contents_of : Json → Reading Docs
-contents_of j = do
-  text ← alone text_of (codes "contents") j
+unfoldable pub read_contents : Json → Reading Docs
+read_contents j = do
+  text ← alone read_text (codes "contents") j
   Ok (record { contents = Some text })
 
 abbrev pub no_docs : Docs
 no_docs = record { contents = None }
 
 -- the docs of an item
-unfoldable pub docs_of : Json → Reading Docs
-docs_of j = do
-  docs ← optional contents_of (codes "docs") j
+unfoldable pub read_docs : Json → Reading Docs
+read_docs j = do
+  docs ← read_optional read_contents (codes "docs") j
   Ok (unwrap_or docs no_docs)
 
 -- `{"since": version}`, and `"deprecated": version` where it is so
-unfoldable pub stable_of : Json → Reading Stability
-stable_of j = do
+unfoldable pub read_stable : Json → Reading Stability
+read_stable j = do
   _ ← only (codes "since" ∷ codes "deprecated" ∷ []) j
-  since ← required version_of (codes "since") j
-  deprecated ← optional version_of (codes "deprecated") j
+  since ← read_required read_version (codes "since") j
+  deprecated ← read_optional read_version (codes "deprecated") j
   Ok (Stable since deprecated)
 
 -- `{"feature": text}`, and `"deprecated": version` where it is so
-unfoldable pub unstable_of : Json → Reading Stability
-unstable_of j = do
+unfoldable pub read_unstable : Json → Reading Stability
+read_unstable j = do
   _ ← only (codes "feature" ∷ codes "deprecated" ∷ []) j
-  feature ← required text_of (codes "feature") j
-  deprecated ← optional version_of (codes "deprecated") j
+  feature ← read_required read_text (codes "feature") j
+  deprecated ← read_optional read_version (codes "deprecated") j
   Ok (Unstable feature deprecated)
 
-abbrev pub gate_by : List ℕ → Json → Reading Stability
-gate_by name j =
-    if bytes_eq name (codes "stable") then stable_of j
-    else if bytes_eq name (codes "unstable") then unstable_of j
+abbrev pub read_gate_by : List ℕ → Json → Reading Stability
+read_gate_by name j =
+    if bytes_eq name (codes "stable") then read_stable j
+    else if bytes_eq name (codes "unstable") then read_unstable j
     else instead_of expected.Gate
 
 -- `{"stable": ..}` or `{"unstable": ..}`, `null` where there is no gate
-unfoldable pub gate_of : Json → Reading Stability
-gate_of json.null = Ok Unknown
-gate_of j = variant_of gate_by expected.Gate j
+unfoldable pub read_any_gate : Json → Reading Stability
+read_any_gate json.null = Ok Unknown
+read_any_gate j = read_variant read_gate_by expected.Gate j
 
 -- the gate of an item
-unfoldable pub stability_of : Json → Reading Stability
-stability_of j = do
-  gate ← optional gate_of (codes "stability") j
+unfoldable pub read_stability : Json → Reading Stability
+read_stability j = do
+  gate ← read_optional read_any_gate (codes "stability") j
   Ok (unwrap_or gate Unknown)

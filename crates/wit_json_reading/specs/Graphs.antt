@@ -7,23 +7,23 @@ use Rattle.wit_names.specs.PackageName.{same_package}
 use Rattle.wit_names.specs.declared.package_name.PackageName.{PackageName}
 use Rattle.wit_graph_data.specs.declared.graph.Graph.{Graph}
 use Rattle.wit_graph_data.specs.declared.graph.Package.{Package}
-use Rattle.wit_json_reading.specs.Gates.{docs_of}
-use Rattle.wit_json_reading.specs.Packages.{package_name_of}
-use Rattle.wit_json_reading.specs.Reading.{Reading, ◌>>=◌, instead_of, list_of, only, required, under, without}
-use Rattle.wit_json_reading.specs.Tables.{named_of}
-use Rattle.wit_json_reading.specs.Types.{type_def_of}
-use Rattle.wit_json_reading.specs.Values.{number_of}
-use Rattle.wit_json_reading.specs.Worlds.{interface_of, world_of}
+use Rattle.wit_json_reading.specs.Gates.{read_docs}
+use Rattle.wit_json_reading.specs.Packages.{read_package_name}
+use Rattle.wit_json_reading.specs.Reading.{Reading, ◌>>=◌, instead_of, read_list, only, read_required, under, read_leaving_out}
+use Rattle.wit_json_reading.specs.Tables.{read_named}
+use Rattle.wit_json_reading.specs.Types.{read_type_def}
+use Rattle.wit_json_reading.specs.Values.{read_number}
+use Rattle.wit_json_reading.specs.Worlds.{read_interface, read_world}
 use Rattle.wit_json_reading.specs.declared.fault.Expected.TheVariants as expected
 use Rattle.wit_json_reading.specs.declared.fault.Step.TheVariants as step
 
-unfoldable pub graph_package_of : Json → Reading Package
-graph_package_of j = do
+unfoldable pub read_graph_package : Json → Reading Package
+read_graph_package j = do
   _ ← only (codes "name" ∷ codes "docs" ∷ codes "interfaces" ∷ codes "worlds" ∷ []) j
-  name ← required package_name_of (codes "name") j
-  docs ← docs_of j
-  interfaces ← required (named_of number_of) (codes "interfaces") j
-  worlds ← required (named_of number_of) (codes "worlds") j
+  name ← read_required read_package_name (codes "name") j
+  docs ← read_docs j
+  interfaces ← read_required (read_named read_number) (codes "interfaces") j
+  worlds ← read_required (read_named read_number) (codes "worlds") j
   Ok (record { name = name; docs = docs; interfaces = interfaces; worlds = worlds })
 
 -- ---- the names of packages
@@ -34,7 +34,8 @@ Homes = List (PackageName × ℕ)
 -- one package more under its name, which no package before it has; its id is the next one
 abbrev pub with_home : Package → Homes → Reading Homes
 with_home home names =
-    if is_some (lookup (same_package home.name) names) then under (step.Item (length names)) (under (step.Member (codes "name")) (instead_of expected.NewName))
+    if is_some (lookup (same_package home.name) names) then under (step.Item (length names))
+    (under (step.Member (codes "name")) (instead_of expected.NewName))
     else Ok (names ++ (home.name, length names) ∷ [])
 
 abbrev pub homes_from : Homes → List Package → Reading Homes
@@ -48,13 +49,14 @@ homes_of homes = homes_from [] homes
 -- ---- graphs
 
 -- each thing stands in its list at the index that is its id; what worlds included stands in them
-unfoldable pub graph_of : Json → Reading Graph
-graph_of j = do
+unfoldable pub read_graph : Json → Reading Graph
+read_graph j = do
   _ ← only (codes "worlds" ∷ codes "interfaces" ∷ codes "types" ∷ codes "packages" ∷ []) j
-  worlds ← required (list_of (without (codes "includes") world_of)) (codes "worlds") j
-  interfaces ← required (list_of interface_of) (codes "interfaces") j
-  types ← required (list_of type_def_of) (codes "types") j
-  packages ← required (list_of graph_package_of) (codes "packages") j
+  worlds ← read_required (read_list (read_leaving_out (codes "includes") read_world))
+      (codes "worlds") j
+  interfaces ← read_required (read_list read_interface) (codes "interfaces") j
+  types ← read_required (read_list read_type_def) (codes "types") j
+  packages ← read_required (read_list read_graph_package) (codes "packages") j
   names ← under (step.Member (codes "packages")) (homes_of packages)
   Ok (record {
     types = types;

@@ -39,6 +39,6 @@ expected_text expected.Details = codes "details of the same things in the same o
 expected_text expected.ValidGraph = codes "a valid graph"
 
 -- a step of a path
-abbrev pub step_text : Step → List ℕ
-step_text (step.Member name) = codes "." ++ name
-step_text (step.Item index) = codes "[" ++ (decimal index ++ codes "]")
+abbrev pub path_step_text : Step → List ℕ
+path_step_text (step.Member name) = codes "." ++ name
+path_step_text (step.Item index) = codes "[" ++ (decimal index ++ codes "]")

@@ -2,7 +2,7 @@
 use Rattle.std.specs.Prelude.{ℕ, List, [], ◌∷◌, Option, Some, None, Ok}
 use Rattle.json.specs.Json.{Json}
 use Rattle.json.specs.Json as json
-use Rattle.wit_json_reading.specs.Reading.{Reading, ◌>>=◌, instead_of, only, required, under}
+use Rattle.wit_json_reading.specs.Reading.{Reading, ◌>>=◌, instead_of, only, read_required, under}
 use Rattle.wit_json_reading.specs.declared.fault.Expected.{Expected}
 use Rattle.wit_json_reading.specs.declared.fault.Expected.TheVariants as expected
 use Rattle.wit_json_reading.specs.declared.fault.Step.TheVariants as step
@@ -18,14 +18,14 @@ by_member f e None = instead_of e
 by_member f e (Some m) = under (step.Member m.0) (f m.0 m.1)
 
 -- an object of one member, which says of what variant its value is
-abbrev pub variant_of : {A : Type 0} → (List ℕ → Json → Reading A) → Expected → Json → Reading A
-variant_of f e j = by_member f e (one_member j)
+abbrev pub read_variant : {A : Type 0} → (List ℕ → Json → Reading A) → Expected → Json → Reading A
+read_variant f e j = by_member f e (one_member j)
 
 -- an object of this member alone
 abbrev pub alone : {A : Type 0} → (Json → Reading A) → List ℕ → Json → Reading A
 alone f name j = do
   _ ← only (name ∷ []) j
-  required f name j
+  read_required f name j
 
 -- the two items of a list that has no other
 abbrev pub two_items : Json → Option (Json × Json)
@@ -41,6 +41,6 @@ by_items f g (Some p) = do
   Ok (x, y)
 
 -- a list of two values
-abbrev pub pair_of : {A B : Type 0} → (Json → Reading A) → (Json → Reading B) → Json
+abbrev pub read_pair : {A B : Type 0} → (Json → Reading A) → (Json → Reading B) → Json
     → Reading (A × B)
-pair_of f g j = by_items f g (two_items j)
+read_pair f g j = by_items f g (two_items j)

@@ -13,13 +13,13 @@ use Rattle.wit_data.specs.declared.stability.Stability.{Stability}
 use Rattle.wit_data.specs.declared.unresolved.AstItem.{AstItem}
 use Rattle.wit_data.specs.declared.unresolved.AstItem.TheVariants as item
 use Rattle.wit_data.specs.declared.unresolved.UnresolvedPackage.{UnresolvedPackage}
-use Rattle.wit_json_reading.specs.Gates.{docs_of, gate_of, place_of, span_of}
-use Rattle.wit_json_reading.specs.Objects.{pair_of, variant_of}
-use Rattle.wit_json_reading.specs.Reading.{Reading, ◌>>=◌, instead_of, list_of, only, optional, required, under, without}
-use Rattle.wit_json_reading.specs.Tables.{named_of}
-use Rattle.wit_json_reading.specs.Types.{type_def_of}
-use Rattle.wit_json_reading.specs.Values.{number_of, text_of, version_in}
-use Rattle.wit_json_reading.specs.Worlds.{interface_of, world_of}
+use Rattle.wit_json_reading.specs.Gates.{read_docs, read_any_gate, read_place, read_span}
+use Rattle.wit_json_reading.specs.Objects.{read_pair, read_variant}
+use Rattle.wit_json_reading.specs.Reading.{Reading, ◌>>=◌, instead_of, read_list, only, read_optional, read_required, under, read_leaving_out}
+use Rattle.wit_json_reading.specs.Tables.{read_named}
+use Rattle.wit_json_reading.specs.Types.{read_type_def}
+use Rattle.wit_json_reading.specs.Values.{read_number, read_text, version_in}
+use Rattle.wit_json_reading.specs.Worlds.{read_interface, read_world}
 use Rattle.wit_json_reading.specs.declared.fault.Expected.TheVariants as expected
 use Rattle.wit_json_reading.specs.declared.fault.Step.TheVariants as step
 
@@ -28,7 +28,9 @@ use Rattle.wit_json_reading.specs.declared.fault.Step.TheVariants as step
 -- the version behind the `@`, where there is an `@`
 abbrev pub version_behind : List ℕ → Reading (Option Parts)
 version_behind text =
-    if list_any (λ b. b == 64) text then (version_in (version_parts (after_first (λ b. b == 64) text)) >>= λ version. Ok (Some version))
+    if list_any (λ b. b == 64) text
+    then (version_in (version_parts (after_first (λ b. b == 64) text))
+    >>= λ version. Ok (Some version))
     else Ok None
 
 -- the name in a namespace
@@ -41,27 +43,28 @@ name_in namespace text =
 -- `namespace:name`, and `@version` where there is one
 unfoldable pub package_name_in : List ℕ → Reading PackageName
 package_name_in text =
-    if list_any (λ b. b == 58) text then name_in (before_first (λ b. b == 58) text) (after_first (λ b. b == 58) text)
+    if list_any (λ b. b == 58) text then name_in (before_first (λ b. b == 58) text)
+    (after_first (λ b. b == 58) text)
     else instead_of expected.PackageName
 
-unfoldable pub package_name_of : Json → Reading PackageName
-package_name_of j = text_of j >>= λ text. package_name_in text
+unfoldable pub read_package_name : Json → Reading PackageName
+read_package_name j = read_text j >>= λ text. package_name_in text
 
 -- ---- what is named of other packages
 
-abbrev pub ast_item_by : List ℕ → Json → Reading AstItem
-ast_item_by name j =
-    if bytes_eq name (codes "interface") then (number_of j >>= λ id. Ok (item.Interface id))
-    else if bytes_eq name (codes "world") then (number_of j >>= λ id. Ok (item.World id))
+abbrev pub read_ast_item_by : List ℕ → Json → Reading AstItem
+read_ast_item_by name j =
+    if bytes_eq name (codes "interface") then (read_number j >>= λ id. Ok (item.Interface id))
+    else if bytes_eq name (codes "world") then (read_number j >>= λ id. Ok (item.World id))
     else instead_of expected.ForeignItem
 
 -- an interface or a world of another package, by its id
-unfoldable pub ast_item_of : Json → Reading AstItem
-ast_item_of j = variant_of ast_item_by expected.ForeignItem j
+unfoldable pub read_ast_item : Json → Reading AstItem
+read_ast_item j = read_variant read_ast_item_by expected.ForeignItem j
 
 -- with the gates under which it is named
-abbrev pub foreign_item_of : Json → Reading (AstItem × List Stability)
-foreign_item_of j = pair_of ast_item_of (list_of gate_of) j
+abbrev pub read_foreign_item : Json → Reading (AstItem × List Stability)
+read_foreign_item j = read_pair read_ast_item (read_list read_any_gate) j
 
 abbrev pub foreign_deps : Type 0
 foreign_deps = List (PackageName × List ForeignItem)
@@ -69,46 +72,50 @@ foreign_deps = List (PackageName × List ForeignItem)
 -- what is named of one more package, behind those that are there
 abbrev pub with_dep : List ℕ → PackageName → List ForeignItem → foreign_deps → Reading foreign_deps
 with_dep text name named deps =
-    if is_some (lookup (same_package name) deps) then under (step.Member text) (instead_of expected.NoSecondMember)
+    if is_some (lookup (same_package name) deps) then under (step.Member text)
+    (instead_of expected.NoSecondMember)
     else Ok (deps ++ (name, named) ∷ [])
 
-abbrev pub dep_of : List ℕ → Json → foreign_deps → Reading foreign_deps
-dep_of text j deps = do
+abbrev pub read_dep : List ℕ → Json → foreign_deps → Reading foreign_deps
+read_dep text j deps = do
   name ← under (step.Member text) (package_name_in text)
-  named ← under (step.Member text) (named_of foreign_item_of j)
+  named ← under (step.Member text) (read_named read_foreign_item j)
   with_dep text name named deps
 
 abbrev pub deps_from : foreign_deps → Members → Reading foreign_deps
 deps_from deps json.no_members = Ok deps
-deps_from deps (json.member text j ms) = dep_of text j deps >>= λ more. deps_from more ms
+deps_from deps (json.member text j ms) = read_dep text j deps >>= λ more. deps_from more ms
 
 -- under the names of packages what is named of each
-abbrev pub deps_of : Json → Reading foreign_deps
-deps_of (json.object ms) = deps_from [] ms
-deps_of _ = instead_of expected.Object
+abbrev pub read_deps : Json → Reading foreign_deps
+read_deps (json.object ms) = deps_from [] ms
+read_deps _ = instead_of expected.Object
 
 -- ---- packages
 
-abbrev pub package_names : List (List ℕ)
-package_names =
+abbrev pub package_members : List (List ℕ)
+package_members =
     codes "name" ∷ codes "span" ∷ codes "docs" ∷ codes "worlds" ∷ codes "interfaces" ∷ codes "types"
     ∷ codes "foreign-deps" ∷ codes "foreign-dep-spans"
     ∷ codes "unknown-type-spans" ∷ codes "required-resources" ∷ []
 
 -- its worlds and interfaces belong to it, and name no package
-unfoldable pub package_of : Json → Reading UnresolvedPackage
-package_of j = do
-  _ ← only package_names j
-  name ← required package_name_of (codes "name") j
-  span ← span_of j
-  docs ← docs_of j
-  worlds ← required (list_of (without (codes "package") world_of)) (codes "worlds") j
-  interfaces ← required (list_of (without (codes "package") interface_of)) (codes "interfaces") j
-  types ← required (list_of type_def_of) (codes "types") j
-  deps ← required deps_of (codes "foreign-deps") j
-  dep_spans ← required (list_of place_of) (codes "foreign-dep-spans") j
-  unknown_spans ← required (list_of place_of) (codes "unknown-type-spans") j
-  resources ← required (list_of (pair_of number_of place_of)) (codes "required-resources") j
+unfoldable pub read_package : Json → Reading UnresolvedPackage
+read_package j = do
+  _ ← only package_members j
+  name ← read_required read_package_name (codes "name") j
+  span ← read_span j
+  docs ← read_docs j
+  worlds ← read_required (read_list (read_leaving_out (codes "package") read_world))
+      (codes "worlds") j
+  interfaces ← read_required (read_list (read_leaving_out (codes "package") read_interface))
+      (codes "interfaces") j
+  types ← read_required (read_list read_type_def) (codes "types") j
+  deps ← read_required read_deps (codes "foreign-deps") j
+  dep_spans ← read_required (read_list read_place) (codes "foreign-dep-spans") j
+  unknown_spans ← read_required (read_list read_place) (codes "unknown-type-spans") j
+  resources ← read_required (read_list (read_pair read_number read_place))
+      (codes "required-resources") j
   Ok (record {
     name = name;
     package_name_span = span;

@@ -43,7 +43,8 @@ Reads (Err error.OutOfMemory) reading = Unit {0}
 abbrev pub names_from : List (List ℕ) → List (List ℕ) → Members → Reading (Unit {0})
 names_from known earlier json.no_members = Ok tt
 names_from known earlier (json.member name j ms) =
-    if list_any (bytes_eq name) earlier then under (step.Member name) (instead_of expected.NoSecondMember)
+    if list_any (bytes_eq name) earlier then under (step.Member name)
+    (instead_of expected.NoSecondMember)
     else if list_any (bytes_eq name) known then names_from known (earlier ++ name ∷ []) ms
     else under (step.Member name) (instead_of expected.NoMember)
 
@@ -58,8 +59,8 @@ if_there f name None = Ok None
 if_there f name (Some j) = under (step.Member name) (f j) >>= λ x. Ok (Some x)
 
 -- the member of a name, which may be left out
-abbrev pub optional : {A : Type 0} → (Json → Reading A) → List ℕ → Json → Reading (Option A)
-optional f name j = if_there f name (get name j)
+abbrev pub read_optional : {A : Type 0} → (Json → Reading A) → List ℕ → Json → Reading (Option A)
+read_optional f name j = if_there f name (get name j)
 
 -- a member that has to be there
 abbrev pub has_to_be_there : {A : Type 0} → (Json → Reading A) → List ℕ → Option Json → Reading A
@@ -67,12 +68,12 @@ has_to_be_there f name None = under (step.Member name) (instead_of expected.Memb
 has_to_be_there f name (Some j) = under (step.Member name) (f j)
 
 -- the member of a name
-abbrev pub required : {A : Type 0} → (Json → Reading A) → List ℕ → Json → Reading A
-required f name j = has_to_be_there f name (get name j)
+abbrev pub read_required : {A : Type 0} → (Json → Reading A) → List ℕ → Json → Reading A
+read_required f name j = has_to_be_there f name (get name j)
 
 -- a value that has no member of this name
-abbrev pub without : {A : Type 0} → List ℕ → (Json → Reading A) → Json → Reading A
-without name f j =
+abbrev pub read_leaving_out : {A : Type 0} → List ℕ → (Json → Reading A) → Json → Reading A
+read_leaving_out name f j =
     if is_some (get name j) then under (step.Member name) (instead_of expected.NoMember) else f j
 
 -- ---- lists
@@ -86,6 +87,6 @@ items_from f n (json.item j js) = do
   Ok (x ∷ xs)
 
 -- a list
-abbrev pub list_of : {A : Type 0} → (Json → Reading A) → Json → Reading (List A)
-list_of f (json.array js) = items_from f 0 js
-list_of f _ = instead_of expected.List
+abbrev pub read_list : {A : Type 0} → (Json → Reading A) → Json → Reading (List A)
+read_list f (json.array js) = items_from f 0 js
+read_list f _ = instead_of expected.List

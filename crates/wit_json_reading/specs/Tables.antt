@@ -12,10 +12,11 @@ abbrev pub named_from : {A : Type 0} → (Json → Reading A) → List (List ℕ
     → Reading (List (List ℕ × A))
 named_from f entries json.no_members = Ok entries
 named_from f entries (json.member name j ms) =
-    if is_some (lookup (bytes_eq name) entries) then under (step.Member name) (instead_of expected.NoSecondMember)
+    if is_some (lookup (bytes_eq name) entries) then under (step.Member name)
+    (instead_of expected.NoSecondMember)
     else (under (step.Member name) (f j) >>= λ x. named_from f (entries ++ (name, x) ∷ []) ms)
 
 -- a table under names, in the order of the members
-abbrev pub named_of : {A : Type 0} → (Json → Reading A) → Json → Reading (List (List ℕ × A))
-named_of f (json.object ms) = named_from f [] ms
-named_of f _ = instead_of expected.Object
+abbrev pub read_named : {A : Type 0} → (Json → Reading A) → Json → Reading (List (List ℕ × A))
+read_named f (json.object ms) = named_from f [] ms
+read_named f _ = instead_of expected.Object

@@ -15,15 +15,15 @@ use Rattle.wit_data.specs.declared.types.TypeOwner.{TypeOwner}
 use Rattle.wit_data.specs.declared.types.TypeOwner.TheVariants as owner
 use Rattle.wit_data.specs.declared.types.Type_.{Type_}
 use Rattle.wit_data.specs.declared.types.Type_.TheVariants as type
-use Rattle.wit_json_reading.specs.Gates.{docs_of, span_of, stability_of}
-use Rattle.wit_json_reading.specs.Objects.{alone, pair_of, variant_of}
-use Rattle.wit_json_reading.specs.Reading.{Reading, ◌>>=◌, instead_of, list_of, only, optional, required}
-use Rattle.wit_json_reading.specs.Values.{nullable, number_of, small_number_of, text_of}
+use Rattle.wit_json_reading.specs.Gates.{read_docs, read_span, read_stability}
+use Rattle.wit_json_reading.specs.Objects.{alone, read_pair, read_variant}
+use Rattle.wit_json_reading.specs.Reading.{Reading, ◌>>=◌, instead_of, read_list, only, read_optional, read_required}
+use Rattle.wit_json_reading.specs.Values.{nullable, read_number, read_small_number, read_text}
 use Rattle.wit_json_reading.specs.declared.fault.Expected.TheVariants as expected
 
 -- the primitive of a name
-abbrev pub primitive_of : List ℕ → Reading Type_
-primitive_of word =
+abbrev pub read_primitive : List ℕ → Reading Type_
+read_primitive word =
     if bytes_eq word (codes "bool") then Ok type.Bool
     else if bytes_eq word (codes "u8") then Ok type.U8
     else if bytes_eq word (codes "u16") then Ok type.U16
@@ -45,130 +45,136 @@ by_id (Ok id) = Ok (type.Id id)
 by_id (Err fault) = instead_of expected.Type
 
 -- a primitive by its name, or a type by its id
-unfoldable pub type_of : Json → Reading Type_
-type_of (json.string word) = primitive_of word
-type_of j = by_id (number_of j)
+unfoldable pub read_type : Json → Reading Type_
+read_type (json.string word) = read_primitive word
+read_type j = by_id (read_number j)
 
-unfoldable pub field_of : Json → Reading Field
-field_of j = do
+unfoldable pub read_field : Json → Reading Field
+read_field j = do
   _ ← only (codes "name" ∷ codes "type" ∷ codes "docs" ∷ codes "span" ∷ []) j
-  name ← required text_of (codes "name") j
-  ty ← required type_of (codes "type") j
-  docs ← docs_of j
-  span ← span_of j
+  name ← read_required read_text (codes "name") j
+  ty ← read_required read_type (codes "type") j
+  docs ← read_docs j
+  span ← read_span j
   Ok (record { name = name; ty = ty; docs = docs; span = span })
 
-unfoldable pub case_of : Json → Reading Case
-case_of j = do
+unfoldable pub read_case : Json → Reading Case
+read_case j = do
   _ ← only (codes "name" ∷ codes "type" ∷ codes "docs" ∷ codes "span" ∷ []) j
-  name ← required text_of (codes "name") j
-  ty ← required (nullable type_of) (codes "type") j
-  docs ← docs_of j
-  span ← span_of j
+  name ← read_required read_text (codes "name") j
+  ty ← read_required (nullable read_type) (codes "type") j
+  docs ← read_docs j
+  span ← read_span j
   Ok (record { name = name; ty = ty; docs = docs; span = span })
 
-unfoldable pub flag_of : Json → Reading Flag
-flag_of j = do
+unfoldable pub read_flag : Json → Reading Flag
+read_flag j = do
   _ ← only (codes "name" ∷ codes "docs" ∷ codes "span" ∷ []) j
-  name ← required text_of (codes "name") j
-  docs ← docs_of j
-  span ← span_of j
+  name ← read_required read_text (codes "name") j
+  docs ← read_docs j
+  span ← read_span j
   Ok (record { name = name; docs = docs; span = span })
 
-unfoldable pub enum_case_of : Json → Reading EnumCase
-enum_case_of j = do
+unfoldable pub read_enum_case : Json → Reading EnumCase
+read_enum_case j = do
   _ ← only (codes "name" ∷ codes "docs" ∷ codes "span" ∷ []) j
-  name ← required text_of (codes "name") j
-  docs ← docs_of j
-  span ← span_of j
+  name ← read_required read_text (codes "name") j
+  docs ← read_docs j
+  span ← read_span j
   Ok (record { name = name; docs = docs; span = span })
 
-abbrev pub handle_by : List ℕ → Json → Reading Handle
-handle_by name j =
-    if bytes_eq name (codes "own") then (number_of j >>= λ id. Ok (Own id))
-    else if bytes_eq name (codes "borrow") then (number_of j >>= λ id. Ok (Borrow id))
+abbrev pub read_handle_by : List ℕ → Json → Reading Handle
+read_handle_by name j =
+    if bytes_eq name (codes "own") then (read_number j >>= λ id. Ok (Own id))
+    else if bytes_eq name (codes "borrow") then (read_number j >>= λ id. Ok (Borrow id))
     else instead_of expected.Handle
 
-unfoldable pub handle_of : Json → Reading Handle
-handle_of j = variant_of handle_by expected.Handle j
+unfoldable pub read_handle : Json → Reading Handle
+read_handle j = read_variant read_handle_by expected.Handle j
 
 -- who owns a type: nobody, an interface or a world
-abbrev pub owner_by : List ℕ → Json → Reading TypeOwner
-owner_by name j =
-    if bytes_eq name (codes "interface") then (number_of j >>= λ id. Ok (owner.Interface id))
-    else if bytes_eq name (codes "world") then (number_of j >>= λ id. Ok (owner.World id))
+abbrev pub read_owner_by : List ℕ → Json → Reading TypeOwner
+read_owner_by name j =
+    if bytes_eq name (codes "interface") then (read_number j >>= λ id. Ok (owner.Interface id))
+    else if bytes_eq name (codes "world") then (read_number j >>= λ id. Ok (owner.World id))
     else instead_of expected.Owner
 
-unfoldable pub owner_of : Json → Reading TypeOwner
-owner_of json.null = Ok owner.None
-owner_of j = variant_of owner_by expected.Owner j
+unfoldable pub read_owner : Json → Reading TypeOwner
+read_owner json.null = Ok owner.None
+read_owner j = read_variant read_owner_by expected.Owner j
 
 -- what a result has where it is well, and where it isn't
-unfoldable pub result_of : Json → Reading TypeDefKind
-result_of j = do
+unfoldable pub read_result : Json → Reading TypeDefKind
+read_result j = do
   _ ← only (codes "ok" ∷ codes "err" ∷ []) j
-  ok ← required (nullable type_of) (codes "ok") j
-  err ← required (nullable type_of) (codes "err") j
+  ok ← read_required (nullable read_type) (codes "ok") j
+  err ← read_required (nullable read_type) (codes "err") j
   Ok (kind.Result_ ok err)
 
 -- the types of keys and of values
-unfoldable pub map_of : Json → Reading TypeDefKind
-map_of j = do
-  parts ← pair_of type_of type_of j
+unfoldable pub read_map : Json → Reading TypeDefKind
+read_map j = do
+  parts ← read_pair read_type read_type j
   Ok (kind.Map parts.0 parts.1)
 
 -- the type of the items, and how many they are
-unfoldable pub fixed_length_list_of : Json → Reading TypeDefKind
-fixed_length_list_of j = do
-  parts ← pair_of type_of small_number_of j
+unfoldable pub read_fixed_length_list : Json → Reading TypeDefKind
+read_fixed_length_list j = do
+  parts ← read_pair read_type read_small_number j
   Ok (kind.FixedLengthList parts.0 parts.1)
 
 -- a kind without parts
-abbrev pub plain_kind_of : List ℕ → Reading TypeDefKind
-plain_kind_of word =
+abbrev pub read_plain_kind : List ℕ → Reading TypeDefKind
+read_plain_kind word =
     if bytes_eq word (codes "resource") then Ok kind.Resource
     else if bytes_eq word (codes "unknown") then Ok kind.Unknown
     else instead_of expected.TypeKind
 
 -- a kind with parts
-unfoldable pub kind_by : List ℕ → Json → Reading TypeDefKind
-kind_by name j =
-    if bytes_eq name (codes "record") then (alone (list_of field_of) (codes "fields") j >>= λ fields. Ok (kind.Record fields))
-    else if bytes_eq name (codes "handle") then (handle_of j >>= λ handle. Ok (kind.Handle handle))
-    else if bytes_eq name (codes "flags") then (alone (list_of flag_of) (codes "flags") j >>= λ flags. Ok (kind.Flags flags))
-    else if bytes_eq name (codes "tuple") then (alone (list_of type_of) (codes "types") j >>= λ types. Ok (kind.Tuple types))
-    else if bytes_eq name (codes "variant") then (alone (list_of case_of) (codes "cases") j >>= λ cases. Ok (kind.Variant cases))
-    else if bytes_eq name (codes "enum") then (alone (list_of enum_case_of) (codes "cases") j >>= λ cases. Ok (kind.Enum cases))
-    else if bytes_eq name (codes "option") then (type_of j >>= λ ty. Ok (kind.Option ty))
-    else if bytes_eq name (codes "result") then result_of j
-    else if bytes_eq name (codes "list") then (type_of j >>= λ ty. Ok (kind.List ty))
-    else if bytes_eq name (codes "map") then map_of j
-    else if bytes_eq name (codes "fixed-length-list") then fixed_length_list_of j
-    else if bytes_eq name (codes "future") then (nullable type_of j >>= λ ty. Ok (kind.Future ty))
-    else if bytes_eq name (codes "stream") then (nullable type_of j >>= λ ty. Ok (kind.Stream ty))
-    else if bytes_eq name (codes "type") then (type_of j >>= λ ty. Ok (kind.Type_ ty))
+unfoldable pub read_kind_by : List ℕ → Json → Reading TypeDefKind
+read_kind_by name j =
+    if bytes_eq name (codes "record")
+    then (alone (read_list read_field) (codes "fields") j >>= λ fields. Ok (kind.Record fields))
+    else if bytes_eq name (codes "handle")
+    then (read_handle j >>= λ handle. Ok (kind.Handle handle))
+    else if bytes_eq name (codes "flags")
+    then (alone (read_list read_flag) (codes "flags") j >>= λ flags. Ok (kind.Flags flags))
+    else if bytes_eq name (codes "tuple")
+    then (alone (read_list read_type) (codes "types") j >>= λ types. Ok (kind.Tuple types))
+    else if bytes_eq name (codes "variant")
+    then (alone (read_list read_case) (codes "cases") j >>= λ cases. Ok (kind.Variant cases))
+    else if bytes_eq name (codes "enum")
+    then (alone (read_list read_enum_case) (codes "cases") j >>= λ cases. Ok (kind.Enum cases))
+    else if bytes_eq name (codes "option") then (read_type j >>= λ ty. Ok (kind.Option ty))
+    else if bytes_eq name (codes "result") then read_result j
+    else if bytes_eq name (codes "list") then (read_type j >>= λ ty. Ok (kind.List ty))
+    else if bytes_eq name (codes "map") then read_map j
+    else if bytes_eq name (codes "fixed-length-list") then read_fixed_length_list j
+    else if bytes_eq name (codes "future") then (nullable read_type j >>= λ ty. Ok (kind.Future ty))
+    else if bytes_eq name (codes "stream") then (nullable read_type j >>= λ ty. Ok (kind.Stream ty))
+    else if bytes_eq name (codes "type") then (read_type j >>= λ ty. Ok (kind.Type_ ty))
     else instead_of expected.TypeKind
 
 -- what a type is: a word, or a word with its parts
-unfoldable pub kind_of : Json → Reading TypeDefKind
-kind_of (json.string word) = plain_kind_of word
-kind_of j = variant_of kind_by expected.TypeKind j
+unfoldable pub read_kind : Json → Reading TypeDefKind
+read_kind (json.string word) = read_plain_kind word
+read_kind j = read_variant read_kind_by expected.TypeKind j
 
-abbrev pub type_names : List (List ℕ)
-type_names =
+abbrev pub type_members : List (List ℕ)
+type_members =
     codes "name" ∷ codes "kind" ∷ codes "owner" ∷ codes "docs" ∷ codes "stability" ∷ codes "span"
     ∷ codes "external-id" ∷ []
 
-unfoldable pub type_def_of : Json → Reading TypeDef
-type_def_of j = do
-  _ ← only type_names j
-  name ← required (nullable text_of) (codes "name") j
-  kind ← required kind_of (codes "kind") j
-  owner ← required owner_of (codes "owner") j
-  docs ← docs_of j
-  stability ← stability_of j
-  span ← span_of j
-  external_id ← optional text_of (codes "external-id") j
+unfoldable pub read_type_def : Json → Reading TypeDef
+read_type_def j = do
+  _ ← only type_members j
+  name ← read_required (nullable read_text) (codes "name") j
+  kind ← read_required read_kind (codes "kind") j
+  owner ← read_required read_owner (codes "owner") j
+  docs ← read_docs j
+  stability ← read_stability j
+  span ← read_span j
+  external_id ← read_optional read_text (codes "external-id") j
   Ok (record {
     name = name;
     kind = kind;

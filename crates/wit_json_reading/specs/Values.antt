@@ -9,14 +9,14 @@ use Rattle.wit_values.specs.Version.{Parts}
 use Rattle.wit_json_reading.specs.Reading.{Reading, ◌>>=◌, instead_of}
 use Rattle.wit_json_reading.specs.declared.fault.Expected.TheVariants as expected
 
-abbrev pub text_of : Json → Reading (List ℕ)
-text_of (json.string text) = Ok text
-text_of _ = instead_of expected.Text
+abbrev pub read_text : Json → Reading (List ℕ)
+read_text (json.string text) = Ok text
+read_text _ = instead_of expected.Text
 
 -- `true` or `false`
-abbrev pub boolean_of : Json → Reading Bool
-boolean_of (json.boolean b) = Ok b
-boolean_of _ = instead_of expected.Boolean
+abbrev pub read_boolean : Json → Reading Bool
+read_boolean (json.boolean b) = Ok b
+read_boolean _ = instead_of expected.Boolean
 
 -- ---- versions
 
@@ -25,9 +25,9 @@ abbrev pub version_in : Result Parts Error → Reading Parts
 version_in (Ok version) = Ok version
 version_in (Err e) = instead_of expected.Version
 
-unfoldable pub version_of : Json → Reading Parts
-version_of j = do
-  text ← text_of j
+unfoldable pub read_version : Json → Reading Parts
+read_version j = do
+  text ← read_text j
   version_in (version_parts text)
 
 -- ---- numbers
@@ -50,14 +50,14 @@ abbrev pub or_number : Option ℕ → Reading ℕ
 or_number None = instead_of expected.Number
 or_number (Some n) = Ok n
 
-abbrev pub number_of : Json → Reading ℕ
-number_of (json.number text) = or_number (decimal_of text)
-number_of _ = instead_of expected.Number
+abbrev pub read_number : Json → Reading ℕ
+read_number (json.number text) = or_number (decimal_of text)
+read_number _ = instead_of expected.Number
 
 -- a number of 32 bits
-unfoldable pub small_number_of : Json → Reading ℕ
-small_number_of j = do
-  n ← number_of j
+unfoldable pub read_small_number : Json → Reading ℕ
+read_small_number j = do
+  n ← read_number j
   if nat_lt n (2 ^ 32) then Ok n else instead_of expected.SmallNumber
 
 -- ---- what may not be there

@@ -16,36 +16,36 @@ use Rattle.wit_data.specs.declared.world.WorldItem.{WorldItem}
 use Rattle.wit_data.specs.declared.world.WorldItem.TheVariants as item
 use Rattle.wit_data.specs.declared.world.WorldKey.{WorldKey}
 use Rattle.wit_data.specs.declared.world.WorldKey.TheVariants as key
-use Rattle.wit_json_reading.specs.Functions.{function_of}
-use Rattle.wit_json_reading.specs.Gates.{docs_of, span_of, stability_of}
-use Rattle.wit_json_reading.specs.Objects.{one_member, variant_of}
-use Rattle.wit_json_reading.specs.Reading.{Reading, ◌>>=◌, instead_of, list_of, only, optional, required, under}
-use Rattle.wit_json_reading.specs.Tables.{named_of}
-use Rattle.wit_json_reading.specs.Values.{nullable, number_of, text_of}
+use Rattle.wit_json_reading.specs.Functions.{read_function}
+use Rattle.wit_json_reading.specs.Gates.{read_docs, read_span, read_stability}
+use Rattle.wit_json_reading.specs.Objects.{one_member, read_variant}
+use Rattle.wit_json_reading.specs.Reading.{Reading, ◌>>=◌, instead_of, read_list, only, read_optional, read_required, under}
+use Rattle.wit_json_reading.specs.Tables.{read_named}
+use Rattle.wit_json_reading.specs.Values.{nullable, read_number, read_text}
 use Rattle.wit_json_reading.specs.declared.fault.Expected.TheVariants as expected
 use Rattle.wit_json_reading.specs.declared.fault.Step.TheVariants as step
 
 -- the package that something belongs to, none where it is left out or `null`
-unfoldable pub home_of : Json → Reading (Option ℕ)
-home_of j = do
-  home ← optional (nullable number_of) (codes "package") j
+unfoldable pub read_home : Json → Reading (Option ℕ)
+read_home j = do
+  home ← read_optional (nullable read_number) (codes "package") j
   Ok (unwrap_or home None)
 
-abbrev pub interface_names : List (List ℕ)
-interface_names =
+abbrev pub interface_members : List (List ℕ)
+interface_members =
     codes "name" ∷ codes "types" ∷ codes "functions" ∷ codes "docs" ∷ codes "stability"
     ∷ codes "package" ∷ codes "span" ∷ []
 
-unfoldable pub interface_of : Json → Reading Interface
-interface_of j = do
-  _ ← only interface_names j
-  name ← required (nullable text_of) (codes "name") j
-  types ← required (named_of number_of) (codes "types") j
-  functions ← required (named_of function_of) (codes "functions") j
-  docs ← docs_of j
-  stability ← stability_of j
-  home ← home_of j
-  span ← span_of j
+unfoldable pub read_interface : Json → Reading Interface
+read_interface j = do
+  _ ← only interface_members j
+  name ← read_required (nullable read_text) (codes "name") j
+  types ← read_required (read_named read_number) (codes "types") j
+  functions ← read_required (read_named read_function) (codes "functions") j
+  docs ← read_docs j
+  stability ← read_stability j
+  home ← read_home j
+  span ← read_span j
   Ok (record {
     name = name;
     types = types;
@@ -58,40 +58,40 @@ interface_of j = do
 
 -- ---- entries of worlds
 
-unfoldable pub interface_entry_of : Json → Reading WorldItem
-interface_entry_of j = do
+unfoldable pub read_interface_entry : Json → Reading WorldItem
+read_interface_entry j = do
   _ ← only (codes "id" ∷ codes "stability" ∷ codes "docs" ∷ codes "span" ∷ codes "external-id" ∷ [])
       j
-  id ← required number_of (codes "id") j
-  stability ← stability_of j
-  docs ← docs_of j
-  span ← span_of j
-  external_id ← optional text_of (codes "external-id") j
+  id ← read_required read_number (codes "id") j
+  stability ← read_stability j
+  docs ← read_docs j
+  span ← read_span j
+  external_id ← read_optional read_text (codes "external-id") j
   Ok (item.Interface id stability docs span external_id)
 
 -- an id with a span
-unfoldable pub placed_type_of : Json → Reading WorldItem
-placed_type_of j = do
+unfoldable pub read_placed_type : Json → Reading WorldItem
+read_placed_type j = do
   _ ← only (codes "id" ∷ codes "span" ∷ []) j
-  id ← required number_of (codes "id") j
-  span ← span_of j
+  id ← read_required read_number (codes "id") j
+  span ← read_span j
   Ok (item.Type_ id span)
 
 -- an id alone, or with a span
-abbrev pub type_entry_of : Json → Reading WorldItem
-type_entry_of (json.object ms) = placed_type_of (json.object ms)
-type_entry_of j = number_of j >>= λ id. Ok (item.Type_ id None)
+abbrev pub read_type_entry : Json → Reading WorldItem
+read_type_entry (json.object ms) = read_placed_type (json.object ms)
+read_type_entry j = read_number j >>= λ id. Ok (item.Type_ id None)
 
-abbrev pub item_by : List ℕ → Json → Reading WorldItem
-item_by name j =
-    if bytes_eq name (codes "interface") then interface_entry_of j
-    else if bytes_eq name (codes "function") then (function_of j >>= λ f. Ok (item.Function f))
-    else if bytes_eq name (codes "type") then type_entry_of j
+abbrev pub read_item_by : List ℕ → Json → Reading WorldItem
+read_item_by name j =
+    if bytes_eq name (codes "interface") then read_interface_entry j
+    else if bytes_eq name (codes "function") then (read_function j >>= λ f. Ok (item.Function f))
+    else if bytes_eq name (codes "type") then read_type_entry j
     else instead_of expected.Entry
 
 -- what a world imports or exports
-unfoldable pub item_of : Json → Reading WorldItem
-item_of j = variant_of item_by expected.Entry j
+unfoldable pub read_item : Json → Reading WorldItem
+read_item j = read_variant read_item_by expected.Entry j
 
 -- a name without a mark: the key of an interface where it is `interface-` and its id, else a label
 abbrev pub plain_key : List ℕ → WorldItem → WorldKey
@@ -105,21 +105,22 @@ abbrev pub marked_label : List ℕ → Option (List ℕ)
 marked_label name = if starts_with nat_eq name (codes "%") then Some (drop 1 name) else None
 
 -- the key of an entry under a name: the label that is marked, or what the name says without a mark
-abbrev pub key_of : List ℕ → WorldItem → WorldKey
-key_of name entry = option_map_or key.Name (marked_label name) (plain_key name entry)
+abbrev pub read_key : List ℕ → WorldItem → WorldKey
+read_key name entry = option_map_or key.Name (marked_label name) (plain_key name entry)
 
 -- an entry behind those that are there, under a key that isn't there yet
 abbrev pub with_entry : List ℕ → WorldItem → List (WorldKey × WorldItem)
     → Reading (List (WorldKey × WorldItem))
 with_entry name entry entries =
-    if is_some (lookup (same_key (key_of name entry)) entries) then under (step.Member name) (instead_of expected.NoSecondMember)
-    else Ok (entries ++ (key_of name entry, entry) ∷ [])
+    if is_some (lookup (same_key (read_key name entry)) entries) then under (step.Member name)
+    (instead_of expected.NoSecondMember)
+    else Ok (entries ++ (read_key name entry, entry) ∷ [])
 
 -- the entry of a member behind those that are there
 abbrev pub with_member : List ℕ → Json → List (WorldKey × WorldItem)
     → Reading (List (WorldKey × WorldItem))
 with_member name j entries =
-    under (step.Member name) (item_of j) >>= λ entry. with_entry name entry entries
+    under (step.Member name) (read_item j) >>= λ entry. with_entry name entry entries
 
 -- the entries of members, behind those that are there
 abbrev pub entries_from : List (WorldKey × WorldItem) → Members
@@ -132,54 +133,55 @@ entries_from entries (json.member name j ms) =
 abbrev pub names_differ : List (List ℕ) → Members → Reading (Unit {0})
 names_differ earlier json.no_members = Ok tt
 names_differ earlier (json.member name j ms) =
-    if list_any (bytes_eq name) earlier then under (step.Member name) (instead_of expected.NoSecondMember)
+    if list_any (bytes_eq name) earlier then under (step.Member name)
+    (instead_of expected.NoSecondMember)
     else names_differ (earlier ++ name ∷ []) ms
 
 -- the entries of a world, whose names and keys differ
-abbrev pub entries_of : Json → Reading (List (WorldKey × WorldItem))
-entries_of (json.object ms) = names_differ [] ms >>= λ _. entries_from [] ms
-entries_of _ = instead_of expected.Object
+abbrev pub read_entries : Json → Reading (List (WorldKey × WorldItem))
+read_entries (json.object ms) = names_differ [] ms >>= λ _. entries_from [] ms
+read_entries _ = instead_of expected.Object
 
 -- ---- worlds
 
-unfoldable pub include_name_of : Json → Reading IncludeName
-include_name_of j = do
+unfoldable pub read_include_name : Json → Reading IncludeName
+read_include_name j = do
   _ ← only (codes "name" ∷ codes "as" ∷ []) j
-  name ← required text_of (codes "name") j
-  as_ ← required text_of (codes "as") j
+  name ← read_required read_text (codes "name") j
+  as_ ← read_required read_text (codes "as") j
   Ok (record { name = name; as_ = as_ })
 
-unfoldable pub include_of : Json → Reading WorldInclude
-include_of j = do
+unfoldable pub read_include : Json → Reading WorldInclude
+read_include j = do
   _ ← only (codes "id" ∷ codes "names" ∷ codes "stability" ∷ codes "span" ∷ []) j
-  id ← required number_of (codes "id") j
-  names ← required (list_of include_name_of) (codes "names") j
-  stability ← stability_of j
-  span ← span_of j
+  id ← read_required read_number (codes "id") j
+  names ← read_required (read_list read_include_name) (codes "names") j
+  stability ← read_stability j
+  span ← read_span j
   Ok (record { stability = stability; id = id; names = names; span = span })
 
 -- what a world includes, nothing where it is left out
-unfoldable pub includes_of : Json → Reading (List WorldInclude)
-includes_of j = do
-  includes ← optional (list_of include_of) (codes "includes") j
+unfoldable pub read_includes : Json → Reading (List WorldInclude)
+read_includes j = do
+  includes ← read_optional (read_list read_include) (codes "includes") j
   Ok (unwrap_or includes [])
 
-abbrev pub world_names : List (List ℕ)
-world_names =
+abbrev pub world_members : List (List ℕ)
+world_members =
     codes "name" ∷ codes "imports" ∷ codes "exports" ∷ codes "includes" ∷ codes "docs"
     ∷ codes "stability" ∷ codes "package" ∷ codes "span" ∷ []
 
-unfoldable pub world_of : Json → Reading World
-world_of j = do
-  _ ← only world_names j
-  name ← required text_of (codes "name") j
-  imports ← required entries_of (codes "imports") j
-  exports ← required entries_of (codes "exports") j
-  includes ← includes_of j
-  docs ← docs_of j
-  stability ← stability_of j
-  home ← home_of j
-  span ← span_of j
+unfoldable pub read_world : Json → Reading World
+read_world j = do
+  _ ← only world_members j
+  name ← read_required read_text (codes "name") j
+  imports ← read_required read_entries (codes "imports") j
+  exports ← read_required read_entries (codes "exports") j
+  includes ← read_includes j
+  docs ← read_docs j
+  stability ← read_stability j
+  home ← read_home j
+  span ← read_span j
   Ok (record {
     name = name;
     imports = imports;

@@ -1,5 +1,5 @@
 //! Whole texts.
-ghost use Rattle.wit_json_reading.specs.Documents.{reading_of};
+ghost use Rattle.wit_json_reading.specs.Documents.{read_from};
 ghost use Rattle.wit_json_reading.specs.Reading.{Reads};
 
 use crate::fault::{Expected, Fault, ReadError, Step, instead_of};
@@ -9,7 +9,7 @@ use std::alloc::{AllocError, Global};
 
 /// What a text reads as that is a JSON value, with whatever white space.
 pub fn read_text<T: ReadJson>(alloc: Global, text: &str) -> Result<T, ReadError>
-    ensures { Reads result (reading_of T.reading text.now) }
+    ensures { Reads result (read_from T.reading text.now) }
 {
     let mut scratch = Scratch::new(alloc);
     match Value::parse(alloc, text, &mut scratch) {

@@ -1,6 +1,6 @@
 //! Features and rules of tracks.
 ghost use Rattle.std.specs.Prelude.{◌≡◌, [], IfOk};
-ghost use Rattle.wit_json_reading.specs.Features.{features_of, names_of, rule_in, rule_of, with_names};
+ghost use Rattle.wit_json_reading.specs.Features.{read_features, read_names, rule_in, read_rule, names_with};
 ghost use Rattle.wit_json_reading.specs.Reading.{Reads};
 
 use crate::fault::{Expected, ReadError, instead_of};
@@ -12,9 +12,9 @@ use wit_graph_data::Features;
 use wit_values::NameSet;
 
 impl ReadJson for NameSet {
-    ghost reading = { names_of };
+    ghost reading = { read_names };
 
-    #[tactic(auto, unfolding(crate::specs::Features::names_of))]
+    #[tactic(auto, unfolding(crate::specs::Features::read_names))]
     fn read_json(alloc: Global, value: &Value<'_>) -> Result<NameSet, ReadError> {
         let texts = list(alloc, value)?;
         Ok(names(alloc, &texts)?)
@@ -23,7 +23,7 @@ impl ReadJson for NameSet {
 
 /// The set of some names.
 fn names(alloc: Global, texts: &Items<Text>) -> Result<NameSet, AllocError>
-    ensures { IfOk result (λ names. names ≡ with_names [] texts.now) }
+    ensures { IfOk result (λ names. names ≡ names_with [] texts.now) }
 {
     let mut names = NameSet::new(alloc);
     for text in texts.as_slice() {
@@ -33,9 +33,9 @@ fn names(alloc: Global, texts: &Items<Text>) -> Result<NameSet, AllocError>
 }
 
 impl ReadJson for Features {
-    ghost reading = { features_of };
+    ghost reading = { read_features };
 
-    #[tactic(auto, unfolding(crate::specs::Features::features_of))]
+    #[tactic(auto, unfolding(crate::specs::Features::read_features))]
     fn read_json(alloc: Global, value: &Value<'_>) -> Result<Features, ReadError> {
         only(alloc, value, &["all", "names"])?;
         let all = required(alloc, value, "all")?;
@@ -45,9 +45,9 @@ impl ReadJson for Features {
 }
 
 impl ReadJson for TrackRule {
-    ghost reading = { rule_of };
+    ghost reading = { read_rule };
 
-    #[tactic(auto, unfolding(crate::specs::Features::rule_of))]
+    #[tactic(auto, unfolding(crate::specs::Features::read_rule))]
     fn read_json(alloc: Global, value: &Value<'_>) -> Result<TrackRule, ReadError> {
         match value.as_str() {
             Some(word) => rule_in(alloc, word),

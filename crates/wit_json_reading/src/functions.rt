@@ -1,6 +1,6 @@
 //! Functions.
 ghost use Rattle.json.specs.Value.{value_view};
-ghost use Rattle.wit_json_reading.specs.Functions.{function_kind_by, function_kind_of, function_of, param_of, plain_function_kind_of, resource_kind_of};
+ghost use Rattle.wit_json_reading.specs.Functions.{read_function_kind_by, read_function_kind, read_function, read_param, read_plain_function_kind, read_resource_kind};
 ghost use Rattle.wit_json_reading.specs.Reading.{Reads};
 
 use crate::fault::{Expected, ReadError, in_member, instead_of};
@@ -12,9 +12,9 @@ use std::alloc::Global;
 use wit_data::{Function, FunctionKind, Param, TypeId};
 
 impl ReadJson for FunctionKind {
-    ghost reading = { function_kind_of };
+    ghost reading = { read_function_kind };
 
-    #[tactic(auto, unfolding(crate::specs::Functions::function_kind_of))]
+    #[tactic(auto, unfolding(crate::specs::Functions::read_function_kind))]
     fn read_json(alloc: Global, value: &Value<'_>) -> Result<FunctionKind, ReadError> {
         if let Some(word) = value.as_str() {
             return plain_kind(alloc, word);
@@ -28,7 +28,7 @@ impl ReadJson for FunctionKind {
 
 /// A kind without a resource.
 fn plain_kind(alloc: Global, word: &str) -> Result<FunctionKind, ReadError>
-    ensures { Reads result (plain_function_kind_of word.now) }
+    ensures { Reads result (read_plain_function_kind word.now) }
 {
     match word {
         "freestanding" => Ok(FunctionKind::Freestanding),
@@ -40,16 +40,16 @@ fn plain_kind(alloc: Global, word: &str) -> Result<FunctionKind, ReadError>
 }
 
 /// A kind of a resource's function.
-#[tactic(auto, unfolding(crate::specs::Functions::function_kind_by))]
+#[tactic(auto, unfolding(crate::specs::Functions::read_function_kind_by))]
 fn kind(alloc: Global, name: &str, value: &Value<'_>) -> Result<FunctionKind, ReadError>
-    ensures { Reads result (function_kind_by name.now (value_view value.now)) }
+    ensures { Reads result (read_function_kind_by name.now (value_view value.now)) }
 {
     let id = ReadJson::read_json(alloc, value)?;
     resource_kind(alloc, name, id)
 }
 
 fn resource_kind(alloc: Global, name: &str, id: TypeId) -> Result<FunctionKind, ReadError>
-    ensures { Reads result (resource_kind_of name.now id) }
+    ensures { Reads result (read_resource_kind name.now id) }
 {
     match name {
         "method" => Ok(FunctionKind::Method(id)),
@@ -66,9 +66,9 @@ fn resource_kind(alloc: Global, name: &str, id: TypeId) -> Result<FunctionKind, 
 }
 
 impl ReadJson for Param {
-    ghost reading = { param_of };
+    ghost reading = { read_param };
 
-    #[tactic(auto, unfolding(crate::specs::Functions::param_of))]
+    #[tactic(auto, unfolding(crate::specs::Functions::read_param))]
     fn read_json(alloc: Global, value: &Value<'_>) -> Result<Param, ReadError> {
         only(alloc, value, &["name", "type", "span"])?;
         let name = required(alloc, value, "name")?;
@@ -79,9 +79,9 @@ impl ReadJson for Param {
 }
 
 impl ReadJson for Function {
-    ghost reading = { function_of };
+    ghost reading = { read_function };
 
-    #[tactic(auto, unfolding(crate::specs::Functions::function_of))]
+    #[tactic(auto, unfolding(crate::specs::Functions::read_function))]
     fn read_json(alloc: Global, value: &Value<'_>) -> Result<Function, ReadError> {
         only(
             alloc,

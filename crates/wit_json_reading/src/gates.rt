@@ -1,7 +1,7 @@
 //! Spans, docs and feature gates.
 ghost use Rattle.std.specs.Prelude.{◌≡◌};
 ghost use Rattle.json.specs.Value.{value_view};
-ghost use Rattle.wit_json_reading.specs.Gates.{contents_of, docs_of, gate_by, gate_of, place_of, range_of, span_of, stability_of, stable_of, unstable_of};
+ghost use Rattle.wit_json_reading.specs.Gates.{read_contents, read_docs, read_gate_by, read_any_gate, read_place, read_range, read_span, read_stability, read_stable, read_unstable};
 ghost use Rattle.wit_json_reading.specs.Reading.{Reads};
 
 use crate::fault::{Expected, ReadError, in_member, instead_of};
@@ -14,9 +14,9 @@ use wit_sources::Span;
 
 /// `null` where it is unknown.
 impl ReadJson for Span {
-    ghost reading = { place_of };
+    ghost reading = { read_place };
 
-    #[tactic(auto, unfolding(crate::specs::Gates::place_of))]
+    #[tactic(auto, unfolding(crate::specs::Gates::read_place))]
     fn read_json(alloc: Global, value: &Value<'_>) -> Result<Span, ReadError> {
         if value.is_null() {
             return Ok(Span::unknown());
@@ -26,9 +26,9 @@ impl ReadJson for Span {
 }
 
 /// A list of two positions.
-#[tactic(auto, unfolding(crate::specs::Gates::range_of))]
+#[tactic(auto, unfolding(crate::specs::Gates::read_range))]
 fn range(alloc: Global, value: &Value<'_>) -> Result<Span, ReadError>
-    ensures { Reads result (range_of (value_view value.now)) }
+    ensures { Reads result (read_range (value_view value.now)) }
 {
     let (start, end) = pair::<u32, u32>(alloc, value)?;
     if start <= end {
@@ -39,9 +39,9 @@ fn range(alloc: Global, value: &Value<'_>) -> Result<Span, ReadError>
 }
 
 /// The span of an item, unknown where it is left out.
-#[tactic(auto, unfolding(crate::specs::Gates::span_of))]
+#[tactic(auto, unfolding(crate::specs::Gates::read_span))]
 pub fn span(alloc: Global, value: &Value<'_>) -> Result<Span, ReadError>
-    ensures { Reads result (span_of (value_view value.now)) }
+    ensures { Reads result (read_span (value_view value.now)) }
 {
     match optional::<Span>(alloc, value, "span")? {
         Some(span) => Ok(span),
@@ -50,9 +50,9 @@ pub fn span(alloc: Global, value: &Value<'_>) -> Result<Span, ReadError>
 }
 
 impl ReadJson for Docs {
-    ghost reading = { contents_of };
+    ghost reading = { read_contents };
 
-    #[tactic(auto, unfolding(crate::specs::Gates::contents_of))]
+    #[tactic(auto, unfolding(crate::specs::Gates::read_contents))]
     fn read_json(alloc: Global, value: &Value<'_>) -> Result<Docs, ReadError> {
         let contents = alone(alloc, value, "contents")?;
         Ok(Docs {
@@ -62,9 +62,9 @@ impl ReadJson for Docs {
 }
 
 /// The docs of an item.
-#[tactic(auto, unfolding(crate::specs::Gates::docs_of))]
+#[tactic(auto, unfolding(crate::specs::Gates::read_docs))]
 pub fn docs(alloc: Global, value: &Value<'_>) -> Result<Docs, ReadError>
-    ensures { Reads result (docs_of (value_view value.now)) }
+    ensures { Reads result (read_docs (value_view value.now)) }
 {
     match optional(alloc, value, "docs")? {
         Some(docs) => Ok(docs),
@@ -73,9 +73,9 @@ pub fn docs(alloc: Global, value: &Value<'_>) -> Result<Docs, ReadError>
 }
 
 impl ReadJson for Stability {
-    ghost reading = { gate_of };
+    ghost reading = { read_any_gate };
 
-    #[tactic(auto, unfolding(crate::specs::Gates::gate_of))]
+    #[tactic(auto, unfolding(crate::specs::Gates::read_any_gate))]
     fn read_json(alloc: Global, value: &Value<'_>) -> Result<Stability, ReadError> {
         if value.is_null() {
             return Ok(Stability::Unknown);
@@ -89,7 +89,7 @@ impl ReadJson for Stability {
 
 /// The gate of this name.
 fn read_gate(alloc: Global, name: &str, value: &Value<'_>) -> Result<Stability, ReadError>
-    ensures { Reads result (gate_by name.now (value_view value.now)) }
+    ensures { Reads result (read_gate_by name.now (value_view value.now)) }
 {
     match name {
         "stable" => stable(alloc, value),
@@ -98,9 +98,9 @@ fn read_gate(alloc: Global, name: &str, value: &Value<'_>) -> Result<Stability, 
     }
 }
 
-#[tactic(auto, unfolding(crate::specs::Gates::stable_of))]
+#[tactic(auto, unfolding(crate::specs::Gates::read_stable))]
 fn stable(alloc: Global, value: &Value<'_>) -> Result<Stability, ReadError>
-    ensures { Reads result (stable_of (value_view value.now)) }
+    ensures { Reads result (read_stable (value_view value.now)) }
 {
     only(alloc, value, &["since", "deprecated"])?;
     let since = required(alloc, value, "since")?;
@@ -108,9 +108,9 @@ fn stable(alloc: Global, value: &Value<'_>) -> Result<Stability, ReadError>
     Ok(Stability::Stable { since, deprecated })
 }
 
-#[tactic(auto, unfolding(crate::specs::Gates::unstable_of))]
+#[tactic(auto, unfolding(crate::specs::Gates::read_unstable))]
 fn unstable(alloc: Global, value: &Value<'_>) -> Result<Stability, ReadError>
-    ensures { Reads result (unstable_of (value_view value.now)) }
+    ensures { Reads result (read_unstable (value_view value.now)) }
 {
     only(alloc, value, &["feature", "deprecated"])?;
     let feature = required(alloc, value, "feature")?;
@@ -122,9 +122,9 @@ fn unstable(alloc: Global, value: &Value<'_>) -> Result<Stability, ReadError>
 }
 
 /// The gate of an item.
-#[tactic(auto, unfolding(crate::specs::Gates::stability_of))]
+#[tactic(auto, unfolding(crate::specs::Gates::read_stability))]
 pub(crate) fn stability(alloc: Global, value: &Value<'_>) -> Result<Stability, ReadError>
-    ensures { Reads result (stability_of (value_view value.now)) }
+    ensures { Reads result (read_stability (value_view value.now)) }
 {
     match optional(alloc, value, "stability")? {
         Some(gate) => Ok(gate),

@@ -1,5 +1,5 @@
 //! Graphs.
-ghost use Rattle.wit_json_reading.specs.Graphs.{graph_of, graph_package_of, homes_of, with_home};
+ghost use Rattle.wit_json_reading.specs.Graphs.{read_graph, read_graph_package, homes_of, with_home};
 ghost use Rattle.wit_json_reading.specs.Reading.{Reads};
 
 use crate::fault::{Expected, ReadError, in_item, in_member, instead_of};
@@ -13,9 +13,9 @@ use wit_graph_data::{Graph, Package};
 use wit_values::TryClone;
 
 impl ReadJson for Package {
-    ghost reading = { graph_package_of };
+    ghost reading = { read_graph_package };
 
-    #[tactic(auto, unfolding(crate::specs::Graphs::graph_package_of))]
+    #[tactic(auto, unfolding(crate::specs::Graphs::read_graph_package))]
     fn read_json(alloc: Global, value: &Value<'_>) -> Result<Package, ReadError> {
         only(alloc, value, &["name", "docs", "interfaces", "worlds"])?;
         let name = required(alloc, value, "name")?;
@@ -59,9 +59,9 @@ fn with_home(alloc: Global, home: &Package, mut names: PackageIds) -> Result<Pac
 }
 
 impl ReadJson for Graph {
-    ghost reading = { graph_of };
+    ghost reading = { read_graph };
 
-    #[tactic(auto, unfolding(crate::specs::Graphs::graph_of))]
+    #[tactic(auto, unfolding(crate::specs::Graphs::read_graph))]
     fn read_json(alloc: Global, value: &Value<'_>) -> Result<Graph, ReadError> {
         only(alloc, value, &["worlds", "interfaces", "types", "packages"])?;
         let worlds = required_without(alloc, value, "worlds", "includes")?;

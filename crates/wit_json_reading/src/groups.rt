@@ -1,6 +1,6 @@
 //! Groups of packages with their files.
 ghost use Rattle.json.specs.Value.{value_view};
-ghost use Rattle.wit_json_reading.specs.Groups.{group_of, source_behind, source_of, sources_of, with_source};
+ghost use Rattle.wit_json_reading.specs.Groups.{read_group, source_behind, read_source, read_sources, with_source};
 ghost use Rattle.wit_json_reading.specs.Reading.{Reads};
 
 use crate::fault::{Expected, ReadError, in_item, instead_of};
@@ -11,9 +11,9 @@ use wit_data::{MapFault, SourceMap, UnresolvedPackageGroup};
 use wit_values::Text;
 
 /// A path and a text.
-#[tactic(auto, unfolding(crate::specs::Groups::source_of))]
+#[tactic(auto, unfolding(crate::specs::Groups::read_source))]
 fn source(alloc: Global, value: &Value<'_>) -> Result<(Text, Text), ReadError>
-    ensures { Reads result (source_of (value_view value.now)) }
+    ensures { Reads result (read_source (value_view value.now)) }
 {
     only(alloc, value, &["path", "text"])?;
     let path = required(alloc, value, "path")?;
@@ -46,7 +46,7 @@ fn with_source(
 }
 
 impl ReadJson for SourceMap {
-    ghost reading = { sources_of };
+    ghost reading = { read_sources };
 
     fn read_json(alloc: Global, value: &Value<'_>) -> Result<SourceMap, ReadError> {
         let Value::Array(items) = value else {
@@ -62,9 +62,9 @@ impl ReadJson for SourceMap {
 }
 
 impl ReadJson for UnresolvedPackageGroup {
-    ghost reading = { group_of };
+    ghost reading = { read_group };
 
-    #[tactic(auto, unfolding(crate::specs::Groups::group_of))]
+    #[tactic(auto, unfolding(crate::specs::Groups::read_group))]
     fn read_json(alloc: Global, value: &Value<'_>) -> Result<UnresolvedPackageGroup, ReadError> {
         only(alloc, value, &["main", "nested", "sources"])?;
         let main = required(alloc, value, "main")?;

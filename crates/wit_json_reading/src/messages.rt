@@ -1,6 +1,6 @@
 //! Faults as texts.
 ghost use Rattle.std.specs.Prelude.{None, Some};
-ghost use Rattle.wit_json_reading.specs.Messages.{expected_text, step_text};
+ghost use Rattle.wit_json_reading.specs.Messages.{expected_text, path_step_text};
 
 use crate::fault::{Expected, Fault, ReadError, Step};
 use std::error::Error;
@@ -47,7 +47,7 @@ impl fmt::Display for Expected {
 }
 
 impl fmt::Display for Step {
-    ghost output = { λ step. Some (step_text step) };
+    ghost output = { λ step. Some (path_step_text step) };
 
     fn fmt<W: fmt::Write>(&self, f: &mut fmt::Formatter<W>) -> fmt::Result {
         match self {

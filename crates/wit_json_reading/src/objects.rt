@@ -2,7 +2,7 @@
 ghost use Rattle.std.specs.Prelude.{◌≡◌};
 ghost use Rattle.std.specs.Option.{option_map};
 ghost use Rattle.json.specs.Value.{value_view};
-ghost use Rattle.wit_json_reading.specs.Objects.{alone, one_member, pair_of, two_items};
+ghost use Rattle.wit_json_reading.specs.Objects.{alone, one_member, read_pair, two_items};
 ghost use Rattle.wit_json_reading.specs.Reading.{Reads};
 
 use crate::fault::{Expected, ReadError, in_item, instead_of};
@@ -56,7 +56,7 @@ pub fn pair<A: ReadJson + Drop, B: ReadJson + Drop>(
     alloc: Global,
     value: &Value<'_>,
 ) -> Result<(A, B), ReadError>
-    ensures { Reads result (pair_of A.reading B.reading (value_view value.now)) }
+    ensures { Reads result (read_pair A.reading B.reading (value_view value.now)) }
 {
     match two_items(value) {
         Some((first, second)) => {

@@ -1,8 +1,8 @@
 //! Unresolved packages.
 ghost use Rattle.std.specs.Prelude.{◌≡◌};
 ghost use Rattle.json.specs.Value.{value_view};
-ghost use Rattle.wit_json_reading.specs.Objects.{pair_of};
-ghost use Rattle.wit_json_reading.specs.Packages.{ast_item_by, ast_item_of, dep_of, deps_of, name_in, package_name_in, package_name_of, package_of, version_behind, with_dep};
+ghost use Rattle.wit_json_reading.specs.Objects.{read_pair};
+ghost use Rattle.wit_json_reading.specs.Packages.{read_ast_item_by, read_ast_item, read_dep, read_deps, name_in, package_name_in, read_package_name, read_package, version_behind, with_dep};
 ghost use Rattle.wit_json_reading.specs.Reading.{Reads};
 
 use crate::fault::{Expected, ReadError, in_member, instead_of};
@@ -17,9 +17,9 @@ use wit_data::{AstItem, Items, Names, PackageName, Stability, Table, UnresolvedP
 use wit_values::{Text, Version};
 
 impl ReadJson for PackageName {
-    ghost reading = { package_name_of };
+    ghost reading = { read_package_name };
 
-    #[tactic(auto, unfolding(crate::specs::Packages::package_name_of))]
+    #[tactic(auto, unfolding(crate::specs::Packages::read_package_name))]
     fn read_json(alloc: Global, value: &Value<'_>) -> Result<PackageName, ReadError> {
         match value.as_str() {
             Some(text) => package_name(alloc, text),
@@ -64,9 +64,9 @@ fn version_behind(alloc: Global, text: &str) -> Result<Option<Version>, ReadErro
 }
 
 impl ReadJson for AstItem {
-    ghost reading = { ast_item_of };
+    ghost reading = { read_ast_item };
 
-    #[tactic(auto, unfolding(crate::specs::Packages::ast_item_of))]
+    #[tactic(auto, unfolding(crate::specs::Packages::read_ast_item))]
     fn read_json(alloc: Global, value: &Value<'_>) -> Result<AstItem, ReadError> {
         match one_member(value) {
             Some((name, id)) => in_member(alloc, ast_item(alloc, name, id), name),
@@ -77,7 +77,7 @@ impl ReadJson for AstItem {
 
 /// The item of this sort.
 fn ast_item(alloc: Global, name: &str, value: &Value<'_>) -> Result<AstItem, ReadError>
-    ensures { Reads result (ast_item_by name.now (value_view value.now)) }
+    ensures { Reads result (read_ast_item_by name.now (value_view value.now)) }
 {
     match name {
         "interface" => Ok(AstItem::Interface(ReadJson::read_json(alloc, value)?)),
@@ -88,7 +88,7 @@ fn ast_item(alloc: Global, name: &str, value: &Value<'_>) -> Result<AstItem, Rea
 
 /// A list of two values.
 impl<A: ReadJson + Drop, B: ReadJson + Drop> ReadJson for (A, B) {
-    ghost reading = { pair_of A.reading B.reading };
+    ghost reading = { read_pair A.reading B.reading };
 
     fn read_json(alloc: Global, value: &Value<'_>) -> Result<(A, B), ReadError> {
         pair(alloc, value)
@@ -99,7 +99,7 @@ impl<A: ReadJson + Drop, B: ReadJson + Drop> ReadJson for (A, B) {
 type ForeignDeps = Table<PackageName, Names<(AstItem, Items<Stability>)>>;
 
 impl ReadJson for Table<PackageName, Names<(AstItem, Items<Stability>)>> {
-    ghost reading = { deps_of };
+    ghost reading = { read_deps };
 
     fn read_json(alloc: Global, value: &Value<'_>) -> Result<ForeignDeps, ReadError> {
         let Value::Object(members) = value else {
@@ -120,7 +120,7 @@ fn with_member(
     value: &Value<'_>,
     deps: ForeignDeps,
 ) -> Result<ForeignDeps, ReadError>
-    ensures { Reads result (dep_of text.now (value_view value.now) deps) }
+    ensures { Reads result (read_dep text.now (value_view value.now) deps) }
 {
     let name = in_member(alloc, package_name(alloc, text), text)?;
     let named = in_member(alloc, ReadJson::read_json(alloc, value), text)?;
@@ -145,9 +145,9 @@ fn with_dep(
 }
 
 impl ReadJson for UnresolvedPackage {
-    ghost reading = { package_of };
+    ghost reading = { read_package };
 
-    #[tactic(auto, unfolding(crate::specs::Packages::package_of))]
+    #[tactic(auto, unfolding(crate::specs::Packages::read_package))]
     fn read_json(alloc: Global, value: &Value<'_>) -> Result<UnresolvedPackage, ReadError> {
         only(
             alloc,

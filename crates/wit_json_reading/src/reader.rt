@@ -3,7 +3,7 @@ ghost use Rattle.std.specs.Prelude.{◌≡◌, map, bytes_eq};
 ghost use Rattle.std.specs.List.{list_any};
 ghost use Rattle.json.specs.Json.{Json};
 ghost use Rattle.json.specs.Value.{value_view};
-ghost use Rattle.wit_json_reading.specs.Reading.{Reading, Reads, list_of, only, optional, required};
+ghost use Rattle.wit_json_reading.specs.Reading.{Reading, Reads, read_list, only, read_optional, read_required};
 ghost use Rattle.wit_json_reading.specs.steps.ByClosures.{ReadsBy};
 
 use crate::fault::{Expected, ReadError, in_item, in_member, instead_of};
@@ -27,7 +27,7 @@ pub fn required<T: ReadJson + Drop>(
     value: &Value<'_>,
     name: &str,
 ) -> Result<T, ReadError>
-    ensures { Reads result (required T.reading name.now (value_view value.now)) }
+    ensures { Reads result (read_required T.reading name.now (value_view value.now)) }
 {
     required_by(alloc, value, name, |it| T::read_json(alloc, it))
 }
@@ -41,7 +41,7 @@ pub(crate) fn required_by<T: Drop, F: Fn(&Value<'_>) -> Result<T, ReadError>>(
 ) -> Result<T, ReadError>
     requires { F.IsAlwaysCallable read }
     ensures { (f : Json → Reading T) → ReadsBy F.Fn read f
-        → Reads result (required f name.now (value_view value.now)) }
+        → Reads result (read_required f name.now (value_view value.now)) }
 {
     match value.get(name) {
         Some(value) => in_member(alloc, read(value), name),
@@ -55,7 +55,7 @@ pub fn optional<T: ReadJson + Drop>(
     value: &Value<'_>,
     name: &str,
 ) -> Result<Option<T>, ReadError>
-    ensures { Reads result (optional T.reading name.now (value_view value.now)) }
+    ensures { Reads result (read_optional T.reading name.now (value_view value.now)) }
 {
     match value.get(name) {
         Some(value) => Ok(Some(in_member(alloc, T::read_json(alloc, value), name)?)),
@@ -98,7 +98,7 @@ fn is_one_of(names: &[&str], name: &str) -> bool
 
 /// A list.
 pub fn list<T: ReadJson + Drop>(alloc: Global, value: &Value<'_>) -> Result<Items<T>, ReadError>
-    ensures { Reads result (list_of T.reading (value_view value.now)) }
+    ensures { Reads result (read_list T.reading (value_view value.now)) }
 {
     list_by(alloc, value, |it| T::read_json(alloc, it))
 }
@@ -111,7 +111,7 @@ pub(crate) fn list_by<T: Drop, F: Fn(&Value<'_>) -> Result<T, ReadError>>(
 ) -> Result<Items<T>, ReadError>
     requires { F.IsAlwaysCallable read }
     ensures { (f : Json → Reading T) → ReadsBy F.Fn read f
-        → Reads result (list_of f (value_view value.now)) }
+        → Reads result (read_list f (value_view value.now)) }
 {
     let Value::Array(items) = value else {
         return instead_of(alloc, Expected::List);

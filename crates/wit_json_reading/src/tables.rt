@@ -2,7 +2,7 @@
 ghost use Rattle.std.specs.Prelude.{◌≡◌, ◌++◌, ◌∷◌, [], IfOk, OnOk, None};
 ghost use Rattle.std.specs.Map.{lookup};
 ghost use Rattle.std.specs.Str.{bytes_eq};
-ghost use Rattle.wit_json_reading.specs.Tables.{named_of};
+ghost use Rattle.wit_json_reading.specs.Tables.{read_named};
 
 use crate::fault::{Expected, ReadError, in_member, instead_of};
 use crate::reader::ReadJson;
@@ -11,7 +11,7 @@ use std::alloc::{AllocError, Global};
 use wit_values::Names;
 
 impl<T: ReadJson + Drop> ReadJson for Names<T> {
-    ghost reading = { named_of T.reading };
+    ghost reading = { read_named T.reading };
 
     fn read_json(alloc: Global, value: &Value<'_>) -> Result<Names<T>, ReadError> {
         let Value::Object(members) = value else {

@@ -2,8 +2,8 @@
 ghost use Rattle.std.specs.Prelude.{◌≡◌};
 ghost use Rattle.json.specs.Value.{value_view};
 ghost use Rattle.wit_json_reading.specs.Reading.{Reads};
-ghost use Rattle.wit_json_reading.specs.Values.{number_of};
-ghost use Rattle.wit_json_reading.specs.Types.{by_id, case_of, enum_case_of, field_of, fixed_length_list_of, flag_of, handle_by, handle_of, kind_by, kind_of, map_of, owner_by, owner_of, plain_kind_of, primitive_of, result_of, type_def_of, type_of};
+ghost use Rattle.wit_json_reading.specs.Values.{read_number};
+ghost use Rattle.wit_json_reading.specs.Types.{by_id, read_case, read_enum_case, read_field, read_fixed_length_list, read_flag, read_handle_by, read_handle, read_kind_by, read_kind, read_map, read_owner_by, read_owner, read_plain_kind, read_primitive, read_result, read_type_def, read_type};
 
 use crate::fault::{Expected, ReadError, in_member, instead_of};
 use crate::gates::{docs, span, stability};
@@ -16,9 +16,9 @@ use wit_data::{
 };
 
 impl ReadJson for Type_ {
-    ghost reading = { type_of };
+    ghost reading = { read_type };
 
-    #[tactic(auto, unfolding(crate::specs::Types::type_of))]
+    #[tactic(auto, unfolding(crate::specs::Types::read_type))]
     fn read_json(alloc: Global, value: &Value<'_>) -> Result<Type_, ReadError> {
         match value.as_str() {
             Some(word) => primitive(alloc, word),
@@ -29,7 +29,7 @@ impl ReadJson for Type_ {
 
 /// A type by its id.
 fn by_id(alloc: Global, value: &Value<'_>) -> Result<Type_, ReadError>
-    ensures { Reads result (by_id (number_of (value_view value.now))) }
+    ensures { Reads result (by_id (read_number (value_view value.now))) }
 {
     match TypeId::read_json(alloc, value) {
         Ok(id) => Ok(Type_::Id(id)),
@@ -40,7 +40,7 @@ fn by_id(alloc: Global, value: &Value<'_>) -> Result<Type_, ReadError>
 
 /// The primitive of a name.
 fn primitive(alloc: Global, word: &str) -> Result<Type_, ReadError>
-    ensures { Reads result (primitive_of word.now) }
+    ensures { Reads result (read_primitive word.now) }
 {
     match word {
         "bool" => Ok(Type_::Bool),
@@ -62,9 +62,9 @@ fn primitive(alloc: Global, word: &str) -> Result<Type_, ReadError>
 }
 
 impl ReadJson for Field {
-    ghost reading = { field_of };
+    ghost reading = { read_field };
 
-    #[tactic(auto, unfolding(crate::specs::Types::field_of))]
+    #[tactic(auto, unfolding(crate::specs::Types::read_field))]
     fn read_json(alloc: Global, value: &Value<'_>) -> Result<Field, ReadError> {
         only(alloc, value, &["name", "type", "docs", "span"])?;
         let name = required(alloc, value, "name")?;
@@ -81,9 +81,9 @@ impl ReadJson for Field {
 }
 
 impl ReadJson for Case {
-    ghost reading = { case_of };
+    ghost reading = { read_case };
 
-    #[tactic(auto, unfolding(crate::specs::Types::case_of))]
+    #[tactic(auto, unfolding(crate::specs::Types::read_case))]
     fn read_json(alloc: Global, value: &Value<'_>) -> Result<Case, ReadError> {
         only(alloc, value, &["name", "type", "docs", "span"])?;
         let name = required(alloc, value, "name")?;
@@ -100,9 +100,9 @@ impl ReadJson for Case {
 }
 
 impl ReadJson for Flag {
-    ghost reading = { flag_of };
+    ghost reading = { read_flag };
 
-    #[tactic(auto, unfolding(crate::specs::Types::flag_of))]
+    #[tactic(auto, unfolding(crate::specs::Types::read_flag))]
     fn read_json(alloc: Global, value: &Value<'_>) -> Result<Flag, ReadError> {
         only(alloc, value, &["name", "docs", "span"])?;
         let name = required(alloc, value, "name")?;
@@ -113,9 +113,9 @@ impl ReadJson for Flag {
 }
 
 impl ReadJson for EnumCase {
-    ghost reading = { enum_case_of };
+    ghost reading = { read_enum_case };
 
-    #[tactic(auto, unfolding(crate::specs::Types::enum_case_of))]
+    #[tactic(auto, unfolding(crate::specs::Types::read_enum_case))]
     fn read_json(alloc: Global, value: &Value<'_>) -> Result<EnumCase, ReadError> {
         only(alloc, value, &["name", "docs", "span"])?;
         let name = required(alloc, value, "name")?;
@@ -126,9 +126,9 @@ impl ReadJson for EnumCase {
 }
 
 impl ReadJson for Handle {
-    ghost reading = { handle_of };
+    ghost reading = { read_handle };
 
-    #[tactic(auto, unfolding(crate::specs::Types::handle_of))]
+    #[tactic(auto, unfolding(crate::specs::Types::read_handle))]
     fn read_json(alloc: Global, value: &Value<'_>) -> Result<Handle, ReadError> {
         match one_member(value) {
             Some((name, id)) => in_member(alloc, handle(alloc, name, id), name),
@@ -139,7 +139,7 @@ impl ReadJson for Handle {
 
 /// The handle of this name.
 fn handle(alloc: Global, name: &str, value: &Value<'_>) -> Result<Handle, ReadError>
-    ensures { Reads result (handle_by name.now (value_view value.now)) }
+    ensures { Reads result (read_handle_by name.now (value_view value.now)) }
 {
     match name {
         "own" => Ok(Handle::Own(ReadJson::read_json(alloc, value)?)),
@@ -149,9 +149,9 @@ fn handle(alloc: Global, name: &str, value: &Value<'_>) -> Result<Handle, ReadEr
 }
 
 impl ReadJson for TypeOwner {
-    ghost reading = { owner_of };
+    ghost reading = { read_owner };
 
-    #[tactic(auto, unfolding(crate::specs::Types::owner_of))]
+    #[tactic(auto, unfolding(crate::specs::Types::read_owner))]
     fn read_json(alloc: Global, value: &Value<'_>) -> Result<TypeOwner, ReadError> {
         if value.is_null() {
             return Ok(TypeOwner::None);
@@ -165,7 +165,7 @@ impl ReadJson for TypeOwner {
 
 /// The owner of this sort.
 fn owner(alloc: Global, name: &str, value: &Value<'_>) -> Result<TypeOwner, ReadError>
-    ensures { Reads result (owner_by name.now (value_view value.now)) }
+    ensures { Reads result (read_owner_by name.now (value_view value.now)) }
 {
     match name {
         "interface" => Ok(TypeOwner::Interface(ReadJson::read_json(alloc, value)?)),
@@ -175,9 +175,9 @@ fn owner(alloc: Global, name: &str, value: &Value<'_>) -> Result<TypeOwner, Read
 }
 
 impl ReadJson for TypeDefKind {
-    ghost reading = { kind_of };
+    ghost reading = { read_kind };
 
-    #[tactic(auto, unfolding(crate::specs::Types::kind_of))]
+    #[tactic(auto, unfolding(crate::specs::Types::read_kind))]
     fn read_json(alloc: Global, value: &Value<'_>) -> Result<TypeDefKind, ReadError> {
         if let Some(word) = value.as_str() {
             return plain_kind(alloc, word);
@@ -191,7 +191,7 @@ impl ReadJson for TypeDefKind {
 
 /// A kind without parts.
 fn plain_kind(alloc: Global, word: &str) -> Result<TypeDefKind, ReadError>
-    ensures { Reads result (plain_kind_of word.now) }
+    ensures { Reads result (read_plain_kind word.now) }
 {
     match word {
         "resource" => Ok(TypeDefKind::Resource),
@@ -201,9 +201,9 @@ fn plain_kind(alloc: Global, word: &str) -> Result<TypeDefKind, ReadError>
 }
 
 /// A kind with parts.
-#[tactic(auto, unfolding(crate::specs::Types::kind_by))]
+#[tactic(auto, unfolding(crate::specs::Types::read_kind_by))]
 fn kind(alloc: Global, name: &str, value: &Value<'_>) -> Result<TypeDefKind, ReadError>
-    ensures { Reads result (kind_by name.now (value_view value.now)) }
+    ensures { Reads result (read_kind_by name.now (value_view value.now)) }
 {
     match name {
         "record" => Ok(TypeDefKind::Record {
@@ -234,9 +234,9 @@ fn kind(alloc: Global, name: &str, value: &Value<'_>) -> Result<TypeDefKind, Rea
     }
 }
 
-#[tactic(auto, unfolding(crate::specs::Types::result_of))]
+#[tactic(auto, unfolding(crate::specs::Types::read_result))]
 fn result(alloc: Global, value: &Value<'_>) -> Result<TypeDefKind, ReadError>
-    ensures { Reads result (result_of (value_view value.now)) }
+    ensures { Reads result (read_result (value_view value.now)) }
 {
     only(alloc, value, &["ok", "err"])?;
     let ok = required(alloc, value, "ok")?;
@@ -244,26 +244,26 @@ fn result(alloc: Global, value: &Value<'_>) -> Result<TypeDefKind, ReadError>
     Ok(TypeDefKind::Result_ { ok, err })
 }
 
-#[tactic(auto, unfolding(crate::specs::Types::map_of))]
+#[tactic(auto, unfolding(crate::specs::Types::read_map))]
 fn map(alloc: Global, value: &Value<'_>) -> Result<TypeDefKind, ReadError>
-    ensures { Reads result (map_of (value_view value.now)) }
+    ensures { Reads result (read_map (value_view value.now)) }
 {
     let (key, item) = pair(alloc, value)?;
     Ok(TypeDefKind::Map(key, item))
 }
 
-#[tactic(auto, unfolding(crate::specs::Types::fixed_length_list_of))]
+#[tactic(auto, unfolding(crate::specs::Types::read_fixed_length_list))]
 fn fixed_length_list(alloc: Global, value: &Value<'_>) -> Result<TypeDefKind, ReadError>
-    ensures { Reads result (fixed_length_list_of (value_view value.now)) }
+    ensures { Reads result (read_fixed_length_list (value_view value.now)) }
 {
     let (ty, len) = pair(alloc, value)?;
     Ok(TypeDefKind::FixedLengthList(ty, len))
 }
 
 impl ReadJson for TypeDef {
-    ghost reading = { type_def_of };
+    ghost reading = { read_type_def };
 
-    #[tactic(auto, unfolding(crate::specs::Types::type_def_of))]
+    #[tactic(auto, unfolding(crate::specs::Types::read_type_def))]
     fn read_json(alloc: Global, value: &Value<'_>) -> Result<TypeDef, ReadError> {
         only(
             alloc,

@@ -3,8 +3,8 @@ ghost use Rattle.std.specs.Prelude.{◌≡◌, ◌≤◌, ◌<◌, ◌+◌, ◌-
 ghost use Rattle.std.specs.Option.{SomeIff};
 ghost use Rattle.json.specs.Value.{value_view};
 ghost use Rattle.semver.specs.Parse.{version_parts};
-ghost use Rattle.wit_json_reading.specs.Reading.{Reads, list_of};
-ghost use Rattle.wit_json_reading.specs.Values.{boolean_of, decimal_of, nullable, number_of, small_number_of, text_of, version_in, version_of};
+ghost use Rattle.wit_json_reading.specs.Reading.{Reads, read_list};
+ghost use Rattle.wit_json_reading.specs.Values.{read_boolean, decimal_of, nullable, read_number, read_small_number, read_text, version_in, read_version};
 
 use crate::fault::{Expected, ReadError, instead_of};
 use crate::reader::{ReadJson, list};
@@ -14,7 +14,7 @@ use wit_data::{InterfaceId, PackageId, TypeId, WorldId};
 use wit_values::{Items, Text, Version};
 
 impl ReadJson for Text {
-    ghost reading = { text_of };
+    ghost reading = { read_text };
 
     fn read_json(alloc: Global, value: &Value<'_>) -> Result<Text, ReadError> {
         match value.as_str() {
@@ -25,7 +25,7 @@ impl ReadJson for Text {
 }
 
 impl ReadJson for bool {
-    ghost reading = { boolean_of };
+    ghost reading = { read_boolean };
 
     fn read_json(alloc: Global, value: &Value<'_>) -> Result<bool, ReadError> {
         match value.as_bool() {
@@ -36,9 +36,9 @@ impl ReadJson for bool {
 }
 
 impl ReadJson for Version {
-    ghost reading = { version_of };
+    ghost reading = { read_version };
 
-    #[tactic(auto, unfolding(crate::specs::Values::version_of))]
+    #[tactic(auto, unfolding(crate::specs::Values::read_version))]
     fn read_json(alloc: Global, value: &Value<'_>) -> Result<Version, ReadError> {
         match value.as_str() {
             Some(text) => version(alloc, text),
@@ -65,7 +65,7 @@ pub(crate) fn version(alloc: Global, text: &str) -> Result<Version, ReadError>
 
 /// The index that a value is.
 fn index(alloc: Global, value: &Value<'_>) -> Result<usize, ReadError>
-    ensures { Reads result (number_of (value_view value.now)) }
+    ensures { Reads result (read_number (value_view value.now)) }
 {
     match value.as_number() {
         Some(text) => match decimal(text) {
@@ -105,9 +105,9 @@ fn with_digit(number: u64, digit: u8) -> Option<u64>
 }
 
 impl ReadJson for u32 {
-    ghost reading = { small_number_of };
+    ghost reading = { read_small_number };
 
-    #[tactic(auto, unfolding(crate::specs::Values::small_number_of))]
+    #[tactic(auto, unfolding(crate::specs::Values::read_small_number))]
     fn read_json(alloc: Global, value: &Value<'_>) -> Result<u32, ReadError> {
         let number = index(alloc, value)?;
         match u32::try_from(number) {
@@ -118,7 +118,7 @@ impl ReadJson for u32 {
 }
 
 impl ReadJson for TypeId {
-    ghost reading = { number_of };
+    ghost reading = { read_number };
 
     fn read_json(alloc: Global, value: &Value<'_>) -> Result<TypeId, ReadError> {
         Ok(TypeId::from_index(index(alloc, value)?))
@@ -126,7 +126,7 @@ impl ReadJson for TypeId {
 }
 
 impl ReadJson for InterfaceId {
-    ghost reading = { number_of };
+    ghost reading = { read_number };
 
     fn read_json(alloc: Global, value: &Value<'_>) -> Result<InterfaceId, ReadError> {
         Ok(InterfaceId::from_index(index(alloc, value)?))
@@ -134,7 +134,7 @@ impl ReadJson for InterfaceId {
 }
 
 impl ReadJson for WorldId {
-    ghost reading = { number_of };
+    ghost reading = { read_number };
 
     fn read_json(alloc: Global, value: &Value<'_>) -> Result<WorldId, ReadError> {
         Ok(WorldId::from_index(index(alloc, value)?))
@@ -142,7 +142,7 @@ impl ReadJson for WorldId {
 }
 
 impl ReadJson for PackageId {
-    ghost reading = { number_of };
+    ghost reading = { read_number };
 
     fn read_json(alloc: Global, value: &Value<'_>) -> Result<PackageId, ReadError> {
         Ok(PackageId::from_index(index(alloc, value)?))
@@ -162,7 +162,7 @@ impl<T: ReadJson + Drop> ReadJson for Option<T> {
 }
 
 impl<T: ReadJson + Drop> ReadJson for Items<T> {
-    ghost reading = { list_of T.reading };
+    ghost reading = { read_list T.reading };
 
     fn read_json(alloc: Global, value: &Value<'_>) -> Result<Items<T>, ReadError> {
         list(alloc, value)

@@ -3,7 +3,7 @@ ghost use Rattle.std.specs.Prelude.{◌≡◌, ◌++◌, [], IfOk, codes, decima
 ghost use Rattle.std.specs.Option.{option_copied};
 ghost use Rattle.json.specs.Value.{members_view, value_view};
 ghost use Rattle.wit_json_reading.specs.Reading.{Reads};
-ghost use Rattle.wit_json_reading.specs.Worlds.{entries_of, home_of, include_name_of, include_of, includes_of, interface_entry_of, interface_of, item_by, item_of, key_of, marked_label, names_differ, placed_type_of, plain_key, type_entry_of, with_entry, with_member, world_of};
+ghost use Rattle.wit_json_reading.specs.Worlds.{read_entries, read_home, read_include_name, read_include, read_includes, read_interface_entry, read_interface, read_item_by, read_item, read_key, marked_label, names_differ, read_placed_type, plain_key, read_type_entry, with_entry, with_member, read_world};
 
 use crate::fault::{Expected, ReadError, in_member, instead_of};
 use crate::gates::{docs, span, stability};
@@ -17,9 +17,9 @@ use wit_data::{
 use wit_values::{Items, NameSet, Table, Text};
 
 /// The package that something belongs to, none where it is left out.
-#[tactic(auto, unfolding(crate::specs::Worlds::home_of))]
+#[tactic(auto, unfolding(crate::specs::Worlds::read_home))]
 fn home(alloc: Global, value: &Value<'_>) -> Result<Option<PackageId>, ReadError>
-    ensures { Reads result (home_of (value_view value.now)) }
+    ensures { Reads result (read_home (value_view value.now)) }
 {
     match optional::<Option<PackageId>>(alloc, value, "package")? {
         Some(home) => Ok(home),
@@ -28,9 +28,9 @@ fn home(alloc: Global, value: &Value<'_>) -> Result<Option<PackageId>, ReadError
 }
 
 impl ReadJson for Interface {
-    ghost reading = { interface_of };
+    ghost reading = { read_interface };
 
-    #[tactic(auto, unfolding(crate::specs::Worlds::interface_of))]
+    #[tactic(auto, unfolding(crate::specs::Worlds::read_interface))]
     fn read_json(alloc: Global, value: &Value<'_>) -> Result<Interface, ReadError> {
         only(
             alloc,
@@ -65,9 +65,9 @@ impl ReadJson for Interface {
 }
 
 impl ReadJson for WorldItem {
-    ghost reading = { item_of };
+    ghost reading = { read_item };
 
-    #[tactic(auto, unfolding(crate::specs::Worlds::item_of))]
+    #[tactic(auto, unfolding(crate::specs::Worlds::read_item))]
     fn read_json(alloc: Global, value: &Value<'_>) -> Result<WorldItem, ReadError> {
         match one_member(value) {
             Some((name, entry)) => in_member(alloc, item(alloc, name, entry), name),
@@ -78,7 +78,7 @@ impl ReadJson for WorldItem {
 
 /// The entry of this sort.
 fn item(alloc: Global, name: &str, value: &Value<'_>) -> Result<WorldItem, ReadError>
-    ensures { Reads result (item_by name.now (value_view value.now)) }
+    ensures { Reads result (read_item_by name.now (value_view value.now)) }
 {
     match name {
         "interface" => interface_entry(alloc, value),
@@ -88,9 +88,9 @@ fn item(alloc: Global, name: &str, value: &Value<'_>) -> Result<WorldItem, ReadE
     }
 }
 
-#[tactic(auto, unfolding(crate::specs::Worlds::interface_entry_of))]
+#[tactic(auto, unfolding(crate::specs::Worlds::read_interface_entry))]
 fn interface_entry(alloc: Global, value: &Value<'_>) -> Result<WorldItem, ReadError>
-    ensures { Reads result (interface_entry_of (value_view value.now)) }
+    ensures { Reads result (read_interface_entry (value_view value.now)) }
 {
     only(
         alloc,
@@ -113,7 +113,7 @@ fn interface_entry(alloc: Global, value: &Value<'_>) -> Result<WorldItem, ReadEr
 
 /// A type by its id alone, or by its id with a span.
 fn type_entry(alloc: Global, value: &Value<'_>) -> Result<WorldItem, ReadError>
-    ensures { Reads result (type_entry_of (value_view value.now)) }
+    ensures { Reads result (read_type_entry (value_view value.now)) }
 {
     if let Value::Object(_) = value {
         return placed_type(alloc, value);
@@ -123,9 +123,9 @@ fn type_entry(alloc: Global, value: &Value<'_>) -> Result<WorldItem, ReadError>
     Ok(WorldItem::Type_ { id, span })
 }
 
-#[tactic(auto, unfolding(crate::specs::Worlds::placed_type_of))]
+#[tactic(auto, unfolding(crate::specs::Worlds::read_placed_type))]
 fn placed_type(alloc: Global, value: &Value<'_>) -> Result<WorldItem, ReadError>
-    ensures { Reads result (placed_type_of (value_view value.now)) }
+    ensures { Reads result (read_placed_type (value_view value.now)) }
 {
     only(alloc, value, &["id", "span"])?;
     let id = required(alloc, value, "id")?;
@@ -135,7 +135,7 @@ fn placed_type(alloc: Global, value: &Value<'_>) -> Result<WorldItem, ReadError>
 
 /// The key of an entry under a name.
 fn key(alloc: Global, name: &str, entry: &WorldItem) -> Result<WorldKey, AllocError>
-    ensures { IfOk result (λ key. key ≡ key_of name.now entry.now) }
+    ensures { IfOk result (λ key. key ≡ read_key name.now entry.now) }
 {
     match marked_label(name) {
         Some(label) => Ok(WorldKey::Name(Text::try_from_str(alloc, label)?)),
@@ -172,7 +172,7 @@ fn is_key_of(alloc: Global, name: &str, id: InterfaceId) -> Result<bool, AllocEr
 }
 
 impl ReadJson for Table<WorldKey, WorldItem> {
-    ghost reading = { entries_of };
+    ghost reading = { read_entries };
 
     fn read_json(
         alloc: Global,
@@ -236,9 +236,9 @@ fn with_entry(
 }
 
 impl ReadJson for IncludeName {
-    ghost reading = { include_name_of };
+    ghost reading = { read_include_name };
 
-    #[tactic(auto, unfolding(crate::specs::Worlds::include_name_of))]
+    #[tactic(auto, unfolding(crate::specs::Worlds::read_include_name))]
     fn read_json(alloc: Global, value: &Value<'_>) -> Result<IncludeName, ReadError> {
         only(alloc, value, &["name", "as"])?;
         let name = required(alloc, value, "name")?;
@@ -248,9 +248,9 @@ impl ReadJson for IncludeName {
 }
 
 impl ReadJson for WorldInclude {
-    ghost reading = { include_of };
+    ghost reading = { read_include };
 
-    #[tactic(auto, unfolding(crate::specs::Worlds::include_of))]
+    #[tactic(auto, unfolding(crate::specs::Worlds::read_include))]
     fn read_json(alloc: Global, value: &Value<'_>) -> Result<WorldInclude, ReadError> {
         only(alloc, value, &["id", "names", "stability", "span"])?;
         let id = required(alloc, value, "id")?;
@@ -267,9 +267,9 @@ impl ReadJson for WorldInclude {
 }
 
 /// What a world includes, nothing where it is left out.
-#[tactic(auto, unfolding(crate::specs::Worlds::includes_of))]
+#[tactic(auto, unfolding(crate::specs::Worlds::read_includes))]
 fn includes(alloc: Global, value: &Value<'_>) -> Result<Items<WorldInclude>, ReadError>
-    ensures { Reads result (includes_of (value_view value.now)) }
+    ensures { Reads result (read_includes (value_view value.now)) }
 {
     match optional(alloc, value, "includes")? {
         Some(includes) => Ok(includes),
@@ -278,9 +278,9 @@ fn includes(alloc: Global, value: &Value<'_>) -> Result<Items<WorldInclude>, Rea
 }
 
 impl ReadJson for World {
-    ghost reading = { world_of };
+    ghost reading = { read_world };
 
-    #[tactic(auto, unfolding(crate::specs::Worlds::world_of))]
+    #[tactic(auto, unfolding(crate::specs::Worlds::read_world))]
     fn read_json(alloc: Global, value: &Value<'_>) -> Result<World, ReadError> {
         only(
             alloc,

@@ -90,9 +90,12 @@ Met = List (StrongKey × Bor (List ℕ))
 
 -- the first n keys are met: each label under its strong key, and no two with the same
 pub record AreMet (keys : List WorldKey) (n : ℕ) (met : Met) : Type 0 where
-  pub sound : (k : StrongKey) (b : Bor (List ℕ)) → lookup (eq-value.it k) met ≡ Some b → (i : ℕ) × (i < n) × (slice_get keys i ≡ Some (key.Name b.now)) × (k ≡ strong_key b.now)
-  pub complete : (i : ℕ) (m : List ℕ) → i < n → slice_get keys i ≡ Some (key.Name m) → lookup (eq-value.it (strong_key m)) met ≡ None → ⊥
-  pub apart : (i j : ℕ) (p m : List ℕ) → i < j → j < n → slice_get keys i ≡ Some (key.Name m) → slice_get keys j ≡ Some (key.Name p) → strong_key p ≡ strong_key m → ⊥
+  pub sound : (k : StrongKey) (b : Bor (List ℕ)) → lookup (eq-value.it k) met ≡ Some b
+      → (i : ℕ) × (i < n) × (slice_get keys i ≡ Some (key.Name b.now)) × (k ≡ strong_key b.now)
+  pub complete : (i : ℕ) (m : List ℕ) → i < n → slice_get keys i ≡ Some (key.Name m)
+      → lookup (eq-value.it (strong_key m)) met ≡ None → ⊥
+  pub apart : (i j : ℕ) (p m : List ℕ) → i < j → j < n → slice_get keys i ≡ Some (key.Name m)
+      → slice_get keys j ≡ Some (key.Name p) → strong_key p ≡ strong_key m → ⊥
 
 pub met-none : (keys : List WorldKey) → AreMet keys 0 []
 met-none keys = record {

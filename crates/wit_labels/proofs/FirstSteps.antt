@@ -22,7 +22,9 @@ lookup-more test (e ∷ es) k v = by (test e.0) (lookup-more test es k v)
 
 -- so many renamings, and the table of those
 abbrev pub TellsSoFar : List IncludeName → ℕ → List (List ℕ × ℕ) → Type 0
-TellsSoFar names i table = (word : List ℕ) → IsIndexOf names (lookup (bytes_eq word) table) (find (is_of word) (take i names))
+TellsSoFar names i table =
+    (word : List ℕ)
+    → IsIndexOf names (lookup (bytes_eq word) table) (find (is_of word) (take i names))
 
 module _ (names : List IncludeName) (i : ℕ) (name : IncludeName) (at : slice_get names i ≡ Some name) where
   found-next : (word : List ℕ) → find (is_of word) (take (i + 1) names) ≡ option_or (find (is_of word) (take i names)) (cond (is_of word name) (Some name) None)

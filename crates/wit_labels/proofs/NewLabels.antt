@@ -38,7 +38,8 @@ word_of label = before_first (λ b. b == 46) (rest_of label)
 
 -- the label as this renaming makes it, where it is of its word
 abbrev made_by : List ℕ → IncludeName → List ℕ
-made_by label name = concat (groups_of label) ++ (name.as_ ++ drop (length (word_of label)) (rest_of label))
+made_by label name =
+    concat (groups_of label) ++ (name.as_ ++ drop (length (word_of label)) (rest_of label))
 
 first-made : (label : List ℕ) → begins_group (rest_of label) ≡ false → (names : List IncludeName)
     → slice_get (filter_map (λ (n : IncludeName). renamed_label_by n label) names) 0 ≡ option_map (made_by label) (find (is_of (word_of label)) names)

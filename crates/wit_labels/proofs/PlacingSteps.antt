@@ -222,11 +222,13 @@ none-later entries i k e x distinct is behind at = by (wanted_getter e.0 e.1) is
 -- ---- the entries in the order of the indices
 
 -- the entries from index i on, and what they wait for
-record IsSuffix (entries : List Entry) (i : ℕ) (es : List Entry) (os : List (Option ℕ)) : Type 0 where
-  pub long : length os ≡ length es
-  pub ends : i + length es ≡ length entries
-  pub at : (j k : ℕ) → i + j ≡ k → slice_get entries k ≡ slice_get es j
-  pub waits : (j k : ℕ) (e : Entry) → i + j ≡ k → slice_get es j ≡ Some e → slice_get os j ≡ Some (later_getter entries k e)
+record IsSuffix (entries : List Entry) (i : ℕ) (es : List Entry) (os : List (Option ℕ)) : Type 0
+  where
+    pub long : length os ≡ length es
+    pub ends : i + length es ≡ length entries
+    pub at : (j k : ℕ) → i + j ≡ k → slice_get entries k ≡ slice_get es j
+    pub waits : (j k : ℕ) (e : Entry) → i + j ≡ k → slice_get es j ≡ Some e
+        → slice_get os j ≡ Some (later_getter entries k e)
 
 some-any : {X : Type 0} (p : X → Bool) (xs : List X) (j : ℕ) (x : X) → slice_get xs j ≡ Some x → p x ≡ true → list_any p xs ≡ true
 some-any p [] j x at test = cc

@@ -94,7 +94,8 @@ wants (key.Interface i) held label setter = cc (setter.0)
 -- ---- the setters among the first entries
 
 pub record HaveGettersBelow (entries : List Entry) (n : ℕ) : Type 0 where
-  pub have : (i : ℕ) (e : Entry) (label : List ℕ) → i < n → slice_get entries i ≡ Some e → IsSetter label e → Contains (keys_of entries) (key.Name (getter_label label))
+  pub have : (i : ℕ) (e : Entry) (label : List ℕ) → i < n → slice_get entries i ≡ Some e
+      → IsSetter label e → Contains (keys_of entries) (key.Name (getter_label label))
 
 pub have-none : (entries : List Entry) → HaveGettersBelow entries 0
 have-none entries = record { have = λ i e label below at setter. absurd (omega (arith, below)) }

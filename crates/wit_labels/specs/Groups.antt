@@ -11,7 +11,10 @@ begins_group text = slice_index text 0 == 91
 abbrev pub groups_within : ℕ → List ℕ → List (List ℕ)
 groups_within zero text = []
 groups_within (suc n) text =
-    if begins_group text && list_any (λ b. b == 93) text then (before_first (λ b. b == 93) text ++ 93 ∷ []) ∷ groups_within n (after_first (λ b. b == 93) text) else []
+    if begins_group text && list_any (λ b. b == 93) text
+    then (before_first (λ b. b == 93) text ++ 93 ∷ [])
+    ∷ groups_within n (after_first (λ b. b == 93) text)
+    else []
 
 -- the groups in brackets with which a label begins; there are no more of them than bytes
 abbrev pub groups_of : List ℕ → List (List ℕ)

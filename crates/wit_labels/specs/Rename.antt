@@ -12,8 +12,12 @@ abbrev pub renamed_label_by : IncludeName → List ℕ → Option (List ℕ)
 renamed_label_by name label =
     let word = before_first (λ b. b == 46) (rest_of label) in
     if begins_group (rest_of label) then None
-    else (if bytes_eq word name.name then Some (concat (groups_of label) ++ (name.as_ ++ drop (length word) (rest_of label))) else None)
+    else (if bytes_eq word name.name
+    then Some (concat (groups_of label) ++ (name.as_ ++ drop (length word) (rest_of label)))
+    else None)
 
 -- the label as the first renaming that is of it makes it, itself where none is
 abbrev pub renamed_label : List IncludeName → List ℕ → List ℕ
-renamed_label names label = unwrap_or (slice_get (filter_map (λ (name : IncludeName). renamed_label_by name label) names) 0) label
+renamed_label names label =
+    unwrap_or (slice_get (filter_map (λ (name : IncludeName). renamed_label_by name label) names) 0)
+    label

@@ -14,11 +14,15 @@ use Rattle.wit_labels.specs.Groups.{groups_of}
 -- the first occurrence of a text, replaced
 abbrev pub replaced_first : List ℕ → List ℕ → List ℕ → List ℕ
 replaced_first old new [] = []
-replaced_first old new (b ∷ bs) = if starts_with nat_eq (b ∷ bs) old then new ++ drop (length old) (b ∷ bs) else b ∷ replaced_first old new bs
+replaced_first old new (b ∷ bs) =
+    if starts_with nat_eq (b ∷ bs) old then new ++ drop (length old) (b ∷ bs)
+    else b ∷ replaced_first old new bs
 
 -- the label begins with a group `[set]`, and with none `[get]`
 abbrev pub is_setter_label : List ℕ → Bool
-is_setter_label label = list_any (bytes_eq (codes "[set]")) (groups_of label) && not (list_any (bytes_eq (codes "[get]")) (groups_of label))
+is_setter_label label =
+    list_any (bytes_eq (codes "[set]")) (groups_of label)
+    && not (list_any (bytes_eq (codes "[get]")) (groups_of label))
 
 -- the label of a setter's getter: `[get]` for the first `[set]`
 abbrev pub getter_label : List ℕ → List ℕ
@@ -26,7 +30,8 @@ getter_label label = replaced_first (codes "[set]") (codes "[get]") label
 
 -- the label of the getter that an entry asks for, where the entry is a setter
 abbrev pub wanted_getter : WorldKey → WorldItem → Option (List ℕ)
-wanted_getter (key.Name label) (item.Function function) = if is_setter_label label then Some (getter_label label) else None
+wanted_getter (key.Name label) (item.Function function) =
+    if is_setter_label label then Some (getter_label label) else None
 wanted_getter k held = None
 
 -- ---- where setters stand
@@ -38,7 +43,8 @@ is_under label (key.Interface i) = false
 
 -- does the second entry stand under the label of the getter that the first one asks for?
 abbrev pub is_getter_of : Entry → Entry → Bool
-is_getter_of setter e = option_map_or (λ (label : List ℕ). is_under label e.0) (wanted_getter setter.0 setter.1) false
+is_getter_of setter e =
+    option_map_or (λ (label : List ℕ). is_under label e.0) (wanted_getter setter.0 setter.1) false
 
 -- a list with x put just behind the first element that passes a test
 abbrev pub put_behind : {X : Type 0} → (X → Bool) → X → List X → List X
@@ -48,4 +54,6 @@ put_behind passes x (y ∷ ys) = if passes y then y ∷ x ∷ ys else y ∷ put_
 -- the list with each setter that stands before its getter moved to just behind it; nothing else moves
 abbrev pub setters_placed : List Entry → List Entry
 setters_placed [] = []
-setters_placed (e ∷ es) = if list_any (is_getter_of e) es then put_behind (is_getter_of e) e (setters_placed es) else e ∷ setters_placed es
+setters_placed (e ∷ es) =
+    if list_any (is_getter_of e) es then put_behind (is_getter_of e) e (setters_placed es)
+    else e ∷ setters_placed es

@@ -14,13 +14,20 @@ use Rattle.wit_labels.specs.declared.strong.StrongKey.{StrongKey}
 abbrev pub class_named : List ℕ → Option Class
 class_named group =
     if bytes_eq group (codes "[constructor]") then Some Constructor
-    else (if bytes_eq group (codes "[get]") then Some Getter else (if bytes_eq group (codes "[set]") then Some Setter else None))
+    else (if bytes_eq group (codes "[get]") then Some Getter
+    else (if bytes_eq group (codes "[set]") then Some Setter else None))
 
 -- what tells labels apart: the first class that one of their groups tells, and what follows the groups, in whatever
 -- case
 abbrev pub strong_key : List ℕ → StrongKey
-strong_key label = record { class = slice_get (filter_map class_named (groups_of label)) 0; name = str_to_ascii_lowercase (rest_of label) }
+strong_key label =
+    record {
+      class = slice_get (filter_map class_named (groups_of label)) 0;
+      name = str_to_ascii_lowercase (rest_of label);
+    }
 
 -- label n clashes with the label m that stands earlier in the list
 abbrev pub Clashes : List WorldKey → List ℕ → List ℕ → Type 0
-Clashes keys n m = (i : ℕ) × (j : ℕ) × (i < j) × (slice_get keys i ≡ Some (key.Name m)) × (slice_get keys j ≡ Some (key.Name n)) × (strong_key n ≡ strong_key m)
+Clashes keys n m =
+    (i : ℕ) × (j : ℕ) × (i < j) × (slice_get keys i ≡ Some (key.Name m))
+    × (slice_get keys j ≡ Some (key.Name n)) × (strong_key n ≡ strong_key m)

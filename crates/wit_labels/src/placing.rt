@@ -78,7 +78,9 @@ fn later_getter(
     place: usize,
 ) -> Result<Option<usize>, AllocError>
     requires { place < length entries.now }
-    ensures { IfOk result (λ getter. (e : Entry) → slice_get entries.now place ≡ Some e → getter ≡ later_getter entries.now place e) }
+    ensures { IfOk result (λ getter.
+        (e : Entry) → slice_get entries.now place ≡ Some e
+        → getter ≡ later_getter entries.now place e) }
 {
     let (key, item) = entries.entry_at(place);
     match wanted_getter(alloc, key, item)? {
@@ -120,7 +122,8 @@ fn order_after_getters(
 /// stands between the last index and the first.
 fn next_indices(alloc: Global, getters: &Items<Option<usize>>) -> Result<Items<usize>, AllocError>
     requires { AreLater getters.now }
-    ensures { IfOk result (λ next. IsRing next (order_after_getters getters.now) (length getters.now)) }
+    ensures { IfOk result
+        (λ next. IsRing next (order_after_getters getters.now) (length getters.now)) }
 {
     let end = getters.len();
     let mut next = Items::from_vec(vec![in alloc; end; end]?);
@@ -135,7 +138,8 @@ fn next_indices(alloc: Global, getters: &Items<Option<usize>>) -> Result<Items<u
 fn put_after(next: &mut Items<usize>, before: usize, index: usize)
     requires before { before < length next.old }
     requires index { index < length next.old }
-    ensures { next.new ≡ slice_set (slice_set next.old before index) index (slice_index next.old before) }
+    ensures { next.new
+        ≡ slice_set (slice_set next.old before index) index (slice_index next.old before) }
 {
     let after = next.replace(before, index);
     next.set(index, after);

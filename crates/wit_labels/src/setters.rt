@@ -63,7 +63,8 @@ pub(crate) fn wanted_getter(
 
 /// The label of the getter that a function under this label asks for, where the function is a setter.
 fn wanted_by(alloc: Global, label: &str) -> Result<Option<Text>, AllocError>
-    ensures { IfOk result (λ wanted. wanted ≡ (if is_setter_label label.now then Some (getter_label label.now) else None)) }
+    ensures { IfOk result (λ wanted.
+        wanted ≡ (if is_setter_label label.now then Some (getter_label label.now) else None)) }
 {
     if is_setter_label(label) {
         Ok(Some(getter_label(alloc, label)?))

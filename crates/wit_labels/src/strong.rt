@@ -83,7 +83,8 @@ pub fn find_clash<'a>(
     alloc: Global,
     entries: &'a Table<WorldKey, WorldItem>,
 ) -> Result<Option<Clash<'a>>, AllocError>
-    ensures some { IfOk result (λ found. IfSome found (λ c. Clashes (keys_of entries.now) c.label.now c.earlier.now)) }
+    ensures some { IfOk result
+        (λ found. IfSome found (λ c. Clashes (keys_of entries.now) c.label.now c.earlier.now)) }
     ensures none { IfOk result (λ found. IfNone found (AreStronglyUnique (keys_of entries.now))) }
 {
     let mut met = Table::new(alloc);

@@ -40,7 +40,8 @@ AreAdded features g [] new (id ∷ ids) = ⊥
 AreAdded features g (p ∷ ps) new [] = ⊥
 
 -- one of several packages has a reason to be refused with this error, in what those before it make of the graph
-pub record IsOneRefused (features : Features) (g : Graph) (packages : List Unresolved) (error : ResolveErrorKind) : Type 0 where
+pub record IsOneRefused (features : Features) (g : Graph) (packages : List Unresolved)
+    (error : ResolveErrorKind) : Type 0 where
   pub before : List Unresolved
   pub p : Unresolved
   pub after : List Unresolved
@@ -62,7 +63,8 @@ packages_of at (group ∷ groups) =
 
 -- adding unresolved packages has a reason to be refused with this error: they can be sorted, and one of them
 -- can't be added to what those before it make of the graph
-pub record IsAdditionsCause (features : Features) (g : Graph) (unresolved : List Unresolved) (error : ResolveErrorKind) : Type 0 where
+pub record IsAdditionsCause (features : Features) (g : Graph) (unresolved : List Unresolved)
+    (error : ResolveErrorKind) : Type 0 where
   pub sortable : NoCause (IsSortCause unresolved)
   pub order : List ℕ
   pub sorted : List Unresolved

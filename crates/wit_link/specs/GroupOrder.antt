@@ -50,14 +50,16 @@ pub record IsGroupOrder (unresolved : List Unresolved) (order : List ℕ) : Type
   pub is : order ≡ first_of_each (flat_map (post_order (group_uses unresolved)) roots)
 
 -- the unresolved packages in such an order
-pub record AreSorted (unresolved : List Unresolved) (order : List ℕ) (sorted : List Unresolved) : Type 0 where
+pub record AreSorted (unresolved : List Unresolved) (order : List ℕ)
+    (sorted : List Unresolved) : Type 0 where
   pub is_order : IsGroupOrder unresolved order
   pub are : AllZip (λ i (p : Unresolved). slice_get unresolved i ≡ Some p) order sorted
 
 -- ---- refusals
 
 -- 5: two unresolved packages have this name, and their names stand there, the later one's first
-pub record IsDefinedTwice (unresolved : List Unresolved) (name : PackageName) (span1 span2 : OptionalSpan) : Type 0 where
+pub record IsDefinedTwice (unresolved : List Unresolved) (name : PackageName)
+    (span1 span2 : OptionalSpan) : Type 0 where
   pub earlier : ℕ
   pub later : ℕ
   pub before : earlier < later
@@ -79,7 +81,8 @@ pub record DependsAt (unresolved : List Unresolved) (user used : ℕ) (span : Op
     pub span_is : SomeAt p.0.foreign_dep_spans place (λ (s : OptionalSpan). span ≡ moved_by p.1 s)
 
 -- 6: the package of this name is on a cycle, and a dependency on the same cycle stands there
-pub record IsOnPackageCycle (unresolved : List Unresolved) (span : OptionalSpan) (home : PackageName) : Type 0 where
+pub record IsOnPackageCycle (unresolved : List Unresolved) (span : OptionalSpan)
+    (home : PackageName) : Type 0 where
   pub user : ℕ
   pub used : ℕ
   pub told : ℕ

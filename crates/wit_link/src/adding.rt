@@ -50,7 +50,7 @@ pub fn append(
     ensures ok { IfOk result
         (λ id. IsAdded (addition features.now graph.old «package» span_offset) graph.new id) }
     ensures valid { IsValid graph.new }
-    ensures err { OnErr result (graph.new ≡ graph.old) }
+    ensures unchanged { OnErr result (graph.new ≡ graph.old) }
     ensures grown { Grown graph.old graph.new }
     ensures cause { IfErr result (λ kind.
         (kind ≡ OutOfMemory)
@@ -82,7 +82,7 @@ pub fn append_with(
         (λ id. IsAdded (addition features.now graph.old «package» span_offset) graph.new id) }
     ensures valid { IsValid graph.new }
     ensures caches { AreCachesOf graph.new caches.new }
-    ensures err { OnErr result (graph.new ≡ graph.old) }
+    ensures unchanged { OnErr result (graph.new ≡ graph.old) }
     ensures grown { Grown graph.old graph.new }
     ensures known { HaveGrown caches.old caches.new }
     ensures cause { IfErr result (λ kind.

@@ -15,7 +15,7 @@ use wit_graph_data::ResolveResult;
 pub fn rename(alloc: Global, label: &str, name: &IncludeName) -> ResolveResult<Option<String>>
     ensures renamed { IfOk result
         (λ text. option_map string_bytes text ≡ renamed_label_by name.now label.now) }
-    ensures err { IfErr result (λ kind. kind ≡ OutOfMemory) }
+    ensures memory { IfErr result (λ kind. kind ≡ OutOfMemory) }
 {
     Ok(wit_labels::rename(alloc, label, name)?)
 }

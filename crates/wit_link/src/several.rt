@@ -29,7 +29,7 @@ pub fn append_all(
     requires valid { IsValid graph.old }
     ensures ok { IfOk result (λ ids. AreAdded features.now graph.old packages graph.new ids) }
     ensures valid { IsValid graph.new }
-    ensures err { OnErr result (graph.new ≡ graph.old) }
+    ensures unchanged { OnErr result (graph.new ≡ graph.old) }
     ensures cause { IfErr result
         (λ kind. (kind ≡ OutOfMemory) ⊎ IsOneRefused features.now graph.old packages kind) }
     ensures refuses { (kind : ResolveErrorKind) → IsOneRefused features.now graph.old packages kind
@@ -54,7 +54,7 @@ pub fn append_all_with(
     ensures ok { IfOk result (λ ids. AreAdded features.now graph.old packages graph.new ids) }
     ensures valid { IsValid graph.new }
     ensures caches { AreCachesOf graph.new caches.new }
-    ensures err { OnErr result (graph.new ≡ graph.old) }
+    ensures unchanged { OnErr result (graph.new ≡ graph.old) }
     ensures grown { Grown graph.old graph.new }
     ensures known { HaveGrown caches.old caches.new }
     ensures cause { IfErr result

@@ -36,7 +36,7 @@ pub(crate) fn finish_world(
         (setters_placed world.imports) (setters_placed world.exports) }
     ensures ok { OnOk result (graph.new ≡ with_finished graph.old world) }
     ensures fine { OnOk result (NoCause (IsFinishCause graph.old world)) }
-    ensures err { OnErr result (graph.new ≡ graph.old) }
+    ensures unchanged { OnErr result (graph.new ≡ graph.old) }
     ensures cause { IfErr result
         (λ kind. (kind ≡ OutOfMemory) ⊎ IsFinishCause graph.old world kind) }
     ensures same { elaborator.new ≡ elaborator.old }

@@ -131,5 +131,8 @@ pub data IsAsked (features : Features) (u : UnresolvedPackage) : Stability → O
 -- all of a package
 abbrev pub package_spans : UnresolvedPackage → List OptionalSpan
 package_spans u =
-    u.package_name_span ∷ (u.foreign_dep_spans ++ (u.unknown_type_spans ++ (map (λ (r : ℕ × OptionalSpan). r.1) u.required_resource_types
-    ++ (flat_map type_spans u.types ++ (flat_map interface_spans u.interfaces ++ flat_map world_spans u.worlds)))))
+    u.package_name_span
+    ∷ (u.foreign_dep_spans
+    ++ (u.unknown_type_spans ++ (map (λ (r : ℕ × OptionalSpan). r.1) u.required_resource_types
+    ++ (flat_map type_spans u.types
+    ++ (flat_map interface_spans u.interfaces ++ flat_map world_spans u.worlds)))))

@@ -76,7 +76,9 @@ abbrev pub entry_mentions : Graph → World → Entry → List ℕ
 entry_mentions g world (k, item.Interface i stability docs span external_id) =
     if belongs_to g world i
     then option_map_or (λ (interface : Interface).
-    map (λ (e : List ℕ × ℕ). e.1) interface.types ++ flat_map (λ (e : List ℕ × Function). function_references e.1) interface.functions) (slice_get g.interfaces i) []
+    map (λ (e : List ℕ × ℕ). e.1) interface.types
+    ++ flat_map (λ (e : List ℕ × Function). function_references e.1) interface.functions)
+    (slice_get g.interfaces i) []
     else []
 entry_mentions g world (k, item.Function f) = function_references f
 entry_mentions g world (k, item.Type_ t span) = t ∷ []
@@ -160,7 +162,8 @@ with_world_included home into names from world b =
     record {
       graph = with_copies b.graph from world m;
       lists = record {
-        imports = joined_entries (is_other_package world.package home) b.lists.imports (map (entry_image m from) world.imports);
+        imports = joined_entries (is_other_package world.package home) b.lists.imports
+            (map (entry_image m from) world.imports);
         exports =
             joined_entries (is_other_package world.package home) b.lists.exports
             (map (entry_image m from) world.exports);

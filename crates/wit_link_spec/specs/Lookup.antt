@@ -71,4 +71,5 @@ owning_interface owner.None = None
 abbrev pub foreign_type_id : Graph → UnresolvedPackage → ℕ → Option ℕ
 foreign_type_id g u t =
     option_and_then (λ (def : TypeDef). option_and_then (λ (name : List ℕ).
-    option_and_then (λ i. option_and_then (interface_type g name) (foreign_interface_id g u i)) (owning_interface def.owner)) def.name) (slice_get u.types t)
+    option_and_then (λ i. option_and_then (interface_type g name) (foreign_interface_id g u i))
+    (owning_interface def.owner)) def.name) (slice_get u.types t)

@@ -62,7 +62,8 @@ known_packages a =
     else keys_of a.graph.package_names ++ a.unresolved.name ∷ []
 
 -- 1: something is named of a package that is neither in the graph nor the one that is added
-pub record LacksPackage (a : Addition) (span : OptionalSpan) (requested : PackageName) (known : List PackageName) : Type 0 where
+pub record LacksPackage (a : Addition) (span : OptionalSpan) (requested : PackageName)
+    (known : List PackageName) : Type 0 where
   pub at : ℕ
   pub items : List ForeignItem
   pub names : slice_get a.unresolved.foreign_deps at ≡ Some (requested, items)
@@ -74,7 +75,8 @@ pub record LacksPackage (a : Addition) (span : OptionalSpan) (requested : Packag
   pub known_are : known ≡ known_packages a
 
 -- 2: a world that is active isn't in the table of its package; the package that is added counts as there and empty
-pub record LacksWorld (a : Addition) (span : OptionalSpan) (requested : List ℕ) (home : PackageName) : Type 0 where
+pub record LacksWorld (a : Addition) (span : OptionalSpan) (requested : List ℕ)
+    (home : PackageName) : Type 0 where
   pub at : ℕ
   pub w : ℕ
   pub notes : List Stability
@@ -87,7 +89,8 @@ pub record LacksWorld (a : Addition) (span : OptionalSpan) (requested : List ℕ
       (λ (world : World). span ≡ moved_by a.offset world.span)
 
 -- 3: the same of an interface
-pub record LacksInterface (a : Addition) (span : OptionalSpan) (requested : List ℕ) (home : PackageName) : Type 0 where
+pub record LacksInterface (a : Addition) (span : OptionalSpan) (requested : List ℕ)
+    (home : PackageName) : Type 0 where
   pub at : ℕ
   pub i : ℕ
   pub notes : List Stability

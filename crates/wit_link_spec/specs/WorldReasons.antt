@@ -49,12 +49,14 @@ IsShadowed current brought n =
 
 -- 7 and 8, of a list called `word` and the list that the include brings to it; `other` tells whether that comes of another
 -- package
-pub data IsJoinCause (other : Bool) (include : WorldInclude) (word : List ℕ) (current brought : List Entry) : ResolveErrorKind → Type 0 where
+pub data IsJoinCause (other : Bool) (include : WorldInclude) (word : List ℕ)
+    (current brought : List Entry) : ResolveErrorKind → Type 0 where
   -- a label that is brought, under its new name, is there
   shadowing_7 : (name : List ℕ)
       → IsShadowed current (map (λ (e : Entry). renamed_key include.names e.0) brought) name
       → IsJoinCause other include word current brought (ItemShadowing include.span word name)
-  -- an interface that is brought is there with another stability, and it isn't a `@since` of another package, which says
+  -- an interface that is brought is there with another stability, and it isn't a `@since` of
+  -- another package, which says
   -- nothing
   mismatch_8 : (i : ℕ) (brings has : Stability) → HasStability brought i brings
       → HasStability current i has → Disagree brings has
@@ -68,7 +70,8 @@ IsRenamed world name =
     × (is_some (renamed_label_by name label) ≡ true)
 
 -- the causes of an include of world `old` by a world of package `home`, which is made as far as `b`
-pub data IsIncludeCause (home : ℕ) (b : PartiallyLinked) (include : WorldInclude) (old : World) : ResolveErrorKind → Type 0 where
+pub data IsIncludeCause (home : ℕ) (b : PartiallyLinked) (include : WorldInclude)
+    (old : World) : ResolveErrorKind → Type 0 where
   of_imports : (error : ResolveErrorKind)
       → IsJoinCause (is_other_package old.package home) include (codes "import") b.lists.imports
       old.imports error → IsIncludeCause home b include old error
@@ -128,7 +131,8 @@ IsAcceptedAt home g world includes j =
 
 -- a world of package `home` that comes next in a graph, with these includes, is refused for this: for its first include that
 -- is refused, and, where all are accepted, as it is finished
-pub data IsWorldCause (home : ℕ) (g : Graph) (world : World) (includes : List WorldInclude) (error : ResolveErrorKind) : Type 0 where
+pub data IsWorldCause (home : ℕ) (g : Graph) (world : World) (includes : List WorldInclude)
+    (error : ResolveErrorKind) : Type 0 where
   at_include : (j : ℕ) (include : WorldInclude) → slice_get includes j ≡ Some include
       → ((i : ℕ) → i < j → IsAcceptedAt home g world includes i)
       → IsCauseOfInclude home (with_several home g world (take j includes)) include error

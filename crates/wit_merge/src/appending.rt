@@ -33,7 +33,7 @@ pub(crate) fn append(
     ensures ok { OnOk result (graph.new ≡ with_elaborated graph.old coming) }
     ensures uses { OnOk result (elaborator.new ≡ graph_uses (with_coming graph.old coming)) }
     ensures fine { OnOk result (IsFine graph.old coming) }
-    ensures err { OnErr result (graph.new ≡ graph.old) }
+    ensures unchanged { OnErr result (graph.new ≡ graph.old) }
     ensures rows_err { OnErr result (elaborator.new ≡ elaborator.old) }
     ensures grown { Grown graph.old graph.new }
     ensures rows { Begins elaborator.old elaborator.new }

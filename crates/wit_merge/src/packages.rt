@@ -60,8 +60,12 @@ fn push_tables(plan: &MergePlan<'_>, into: &mut Package, from: &Package) -> Resu
         ++ moved_names plan.now.matches.now.worlds plan.now.merge_ids.now.new_ids.worlds
         from.now.worlds) }
     ensures { OnOk result (into.new ≡ record into.old {
-      interfaces = into.old.interfaces ++ moved_names plan.now.matches.now.interfaces plan.now.merge_ids.now.new_ids.interfaces from.now.interfaces;
-      worlds = into.old.worlds ++ moved_names plan.now.matches.now.worlds plan.now.merge_ids.now.new_ids.worlds from.now.worlds;
+      interfaces = into.old.interfaces
+          ++ moved_names plan.now.matches.now.interfaces plan.now.merge_ids.now.new_ids.interfaces
+          from.now.interfaces;
+      worlds = into.old.worlds
+          ++ moved_names plan.now.matches.now.worlds plan.now.merge_ids.now.new_ids.worlds
+          from.now.worlds;
     }) }
 {
     let (matches, new_ids) = (plan.matches, &plan.merge_ids.new_ids);

@@ -182,7 +182,7 @@ pub fn append_merge(
         (λ remap. remap ≡ merge_remap (merge_of_graphs_by graph.old other.now offset)) }
     ensures valid { IsValid graph.new }
     ensures uses { elaborator.new ≡ graph_uses graph.new }
-    ensures err { OnErr result (graph.new ≡ graph.old) }
+    ensures unchanged { OnErr result (graph.new ≡ graph.old) }
     ensures grown { Grown graph.old graph.new }
     ensures rows { Begins elaborator.old elaborator.new }
     ensures met { AreRight graph.new.types met.new }

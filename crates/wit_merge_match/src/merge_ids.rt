@@ -18,6 +18,7 @@ pub struct MergeIds {
 }
 
 /// Where the things of the other graph go, by the matches of the two graphs. The only error is want of memory.
+/// The contract alone names `other`: the matches have an entry for each of its things.
 ///
 /// Source: `merge` of wit-parser 0.263.0.
 pub fn find_ids(

@@ -46,8 +46,11 @@ impl<'a> LabelNotes<'a> {
         found: &mut Items<Option<InterfaceId>>,
     )
         requires { KnowsWorlds self.now }
-        ensures { (named : List (Option ℕ)) → (later : List (ℕ × WorldLabel)) → AreLabelled self.now.graph.now self.now.other.now named later found.old
-            → AreLabelled self.now.graph.now self.now.other.now named (flat_map (λ (e : Entry). interface_at_label world exported e.0 e.1) entries.now ++ later) found.new }
+        ensures { (named : List (Option ℕ)) → (later : List (ℕ × WorldLabel))
+            → AreLabelled self.now.graph.now self.now.other.now named later found.old
+            → AreLabelled self.now.graph.now self.now.other.now named
+            (flat_map (λ (e : Entry). interface_at_label world exported e.0 e.1) entries.now
+            ++ later) found.new }
     {
         for index in (0..entries.len()).rev() {
             let (key, item) = entries.entry_at(index);
@@ -65,8 +68,10 @@ impl<'a> LabelNotes<'a> {
         found: &mut Items<Option<InterfaceId>>,
     )
         requires { KnowsWorlds self.now }
-        ensures { (named : List (Option ℕ)) → (later : List (ℕ × WorldLabel)) → AreLabelled self.now.graph.now self.now.other.now named later found.old
-            → AreLabelled self.now.graph.now self.now.other.now named (interface_at_label world exported key.now item.now ++ later) found.new }
+        ensures { (named : List (Option ℕ)) → (later : List (ℕ × WorldLabel))
+            → AreLabelled self.now.graph.now self.now.other.now named later found.old
+            → AreLabelled self.now.graph.now self.now.other.now named
+            (interface_at_label world exported key.now item.now ++ later) found.new }
     {
         match key {
             WorldKey::Name(_) => {

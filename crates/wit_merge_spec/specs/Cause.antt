@@ -42,7 +42,8 @@ use Rattle.wit_merge_spec.specs.Structure.{DifferInStructure}
 
 -- two items are both interfaces, both functions or both types
 abbrev pub same_sort : WorldItem → WorldItem → Bool
-same_sort (item.Interface i stability docs span external_id) (item.Interface i' stability' docs' span' external_id') = true
+same_sort (item.Interface i stability docs span external_id)
+    (item.Interface i' stability' docs' span' external_id') = true
 same_sort (item.Function f) (item.Function f') = true
 same_sort (item.Type_ t span) (item.Type_ t' span') = true
 same_sort from into = false

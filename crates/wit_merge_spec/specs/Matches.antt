@@ -47,7 +47,8 @@ abbrev pub named_in_counterpart : (Package → List (List ℕ × ℕ)) → Graph
     → Option ℕ
 named_in_counterpart table m home name =
     option_and_then (λ p'.
-    option_and_then (λ (there : Package). lookup (bytes_eq name) (table there)) (slice_get m.graph.packages p')) (option_and_then (counterpart_package m) home)
+    option_and_then (λ (there : Package). lookup (bytes_eq name) (table there))
+    (slice_get m.graph.packages p')) (option_and_then (counterpart_package m) home)
 
 -- the counterpart of world w of the incoming graph: the world of that name in the counterpart of its package
 abbrev pub counterpart_world : GraphMerge → ℕ → Option ℕ
@@ -79,7 +80,8 @@ abbrev pub world_labels : List World → List (ℕ × WorldLabel)
 world_labels worlds =
     flat_map (λ (e : ℕ × World).
     flat_map (λ (i : Entry). interface_at_label e.0 false i.0 i.1) e.1.imports
-    ++ flat_map (λ (i : Entry). interface_at_label e.0 true i.0 i.1) e.1.exports) (enumerate_from 0 worlds)
+    ++ flat_map (λ (i : Entry). interface_at_label e.0 true i.0 i.1) e.1.exports)
+    (enumerate_from 0 worlds)
 
 -- the interface without a name that an item is
 abbrev pub unnamed_item : List Interface → WorldItem → Option ℕ
@@ -92,7 +94,9 @@ unnamed_item interfaces (item.Type_ t span) = None
 abbrev pub counterpart_at_label : GraphMerge → WorldLabel → Option ℕ
 counterpart_at_label m world_label =
     option_and_then (λ (there : World).
-    option_and_then (unnamed_item m.graph.interfaces) (lookup (same_key (key.Name world_label.label)) (entries_of world_label.exported there))) (matched_world m world_label.world)
+    option_and_then (unnamed_item m.graph.interfaces)
+    (lookup (same_key (key.Name world_label.label)) (entries_of world_label.exported there)))
+    (matched_world m world_label.world)
 
 -- the counterpart of an interface: by its name in the counterpart of its package, or, unnamed, under the same label
 -- of the counterpart of the world where it stands
@@ -235,14 +239,17 @@ in_package_order g =
 abbrev pub type_pairs : GraphMerge → List TypePair
 type_pairs m =
     flat_map (λ (home : Package).
-    flat_map (λ (e : List ℕ × ℕ). interface_pairs m (part_links home.name (codes "interface") e.0) e.1) home.interfaces) (in_package_order m.other)
+    flat_map (λ (e : List ℕ × ℕ). interface_pairs m (part_links home.name (codes "interface") e.0)
+    e.1) home.interfaces) (in_package_order m.other)
     ++ flat_map (λ (home : Package).
-    flat_map (λ (e : List ℕ × ℕ). world_pairs m (part_links home.name (codes "world") e.0) e.1) home.worlds) (in_package_order m.other)
+    flat_map (λ (e : List ℕ × ℕ). world_pairs m (part_links home.name (codes "world") e.0) e.1)
+    home.worlds) (in_package_order m.other)
 
 -- ---- the first that differ
 
 -- of some pairs the first that differ are told, with how they do
-pub record FirstDiffers (differ : ℕ → ℕ → List ℕ → Type 0) (pairs : List TypePair) (message : List ℕ) : Type 0 where
+pub record FirstDiffers (differ : ℕ → ℕ → List ℕ → Type 0) (pairs : List TypePair)
+    (message : List ℕ) : Type 0 where
   pub pair : TypePair
   pub first : First (λ (p : TypePair). (ending : List ℕ) × differ p.from p.into ending) pairs pair
   pub message_is : message ≡ linked pair.links first.is.0

@@ -108,7 +108,8 @@ path_text (step ∷ steps) = codes "at " ++ (dotted (step ∷ steps) ++ codes ":
 
 -- type t of a graph differs in structure from type t' of another with which it is matched, as a text tells: what types
 -- of the first are matched with is given, and types of the other are what they are matched with
-pub record DifferInStructure (others ours : List TypeDef) (matched : ℕ → Option ℕ) (t t' : ℕ) (text : List ℕ) : Type 0 where
+pub record DifferInStructure (others ours : List TypeDef) (matched : ℕ → Option ℕ) (t t' : ℕ)
+    (text : List ℕ) : Type 0 where
   pub x : Feature
   pub y : Feature
   pub first : FirstDifference (structure others matched t) (structure ours Some t') x y

@@ -55,7 +55,9 @@ suffix_read tail version read = elim (cases_Bool (list_any (λ b. b == 64) tail)
 -- what a reading round the `:` and the `/` says
 record IsPackageReading (namespace parent tail : List ℕ) (path : ParsedUsePath) : Type 0 where
   version : Option Parts
-  is : path ≡ Package (record { namespace = namespace; name = parent; version = version }) (before_first (λ b. b == 64) tail)
+  is : path
+      ≡ Package (record { namespace = namespace; name = parent; version = version })
+      (before_first (λ b. b == 64) tail)
   namespace_kebab : is_kebab_name namespace ≡ true
   parent_kebab : is_kebab_name parent ≡ true
   name_kebab : is_kebab_name (before_first (λ b. b == 64) tail) ≡ true
@@ -64,7 +66,9 @@ record IsPackageReading (namespace parent tail : List ℕ) (path : ParsedUsePath
 
 -- the three names of a reading
 abbrev are_kebab : List ℕ → List ℕ → List ℕ → Bool
-are_kebab namespace parent tail = is_kebab_name namespace && (is_kebab_name parent && is_kebab_name (before_first (λ b. b == 64) tail))
+are_kebab namespace parent tail =
+    is_kebab_name namespace
+    && (is_kebab_name parent && is_kebab_name (before_first (λ b. b == 64) tail))
 
 package_reading : (namespace parent tail : List ℕ) (path : ParsedUsePath) → package_path_of namespace parent tail ≡ Some path → IsPackageReading namespace parent tail path
 package_reading namespace parent tail path read = elim (cases_Bool (are_kebab namespace parent tail)) [

@@ -29,8 +29,11 @@ HasValidVersion p = IfSome p.version IsValid
 abbrev pub package_cmp : PackageName → PackageName → Ordering
 package_cmp =
     then_cmp (on (λ (p : PackageName). p.namespace) (slice_cmp nat_cmp))
-    (then_cmp (on (λ (p : PackageName). p.name) (slice_cmp nat_cmp)) (on (λ (p : PackageName). p.version) (option_cmp version_cmp)))
+    (then_cmp (on (λ (p : PackageName). p.name) (slice_cmp nat_cmp))
+    (on (λ (p : PackageName). p.version) (option_cmp version_cmp)))
 
 -- two package names are the same
 abbrev pub same_package : PackageName → PackageName → Bool
-same_package a b = bytes_eq a.namespace b.namespace && (bytes_eq a.name b.name && option_eq version_eq a.version b.version)
+same_package a b =
+    bytes_eq a.namespace b.namespace
+    && (bytes_eq a.name b.name && option_eq version_eq a.version b.version)

@@ -11,7 +11,8 @@ use Rattle.wit_names.specs.declared.track.TrackRule.TheVariants.{Published, With
 -- the track of a release, by its numbers: the major one, or the minor one where the major one is 0, or the whole
 abbrev pub release_track : ℕ → ℕ → ℕ → Parts
 release_track major minor patch =
-    if major == 0 then (if minor == 0 then (0, 0, patch, [], []) else (0, minor, 0, [], [])) else (major, 0, 0, [], [])
+    if major == 0 then (if minor == 0 then (0, 0, patch, [], []) else (0, minor, 0, [], []))
+    else (major, 0, 0, [], [])
 
 -- the track; of a pre-release it is the pre-release itself, and the build metadata never counts
 abbrev pub track_of : Parts → Parts
@@ -25,11 +26,14 @@ track_by WithPrereleases v = release_track v.0 v.1 v.2
 -- the text of the track of a release
 abbrev pub release_track_text : ℕ → ℕ → ℕ → List ℕ
 release_track_text major minor patch =
-    if major == 0 then (if minor == 0 then parts_text (0, 0, patch, [], []) else 48 ∷ 46 ∷ decimal minor) else decimal major
+    if major == 0
+    then (if minor == 0 then parts_text (0, 0, patch, [], []) else 48 ∷ 46 ∷ decimal minor)
+    else decimal major
 
 -- the text of a track: `MAJOR`, `0.MINOR`, or the whole
 abbrev pub track_text : Parts → List ℕ
-track_text v = if length v.3 == 0 then release_track_text v.0 v.1 v.2 else parts_text (v.0, v.1, v.2, v.3, [])
+track_text v =
+    if length v.3 == 0 then release_track_text v.0 v.1 v.2 else parts_text (v.0, v.1, v.2, v.3, [])
 
 -- a text, None where it is empty
 abbrev pub some_text : List ℕ → Option (List ℕ)

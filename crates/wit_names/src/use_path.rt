@@ -132,7 +132,8 @@ fn are_upper(bytes: &[u8]) -> bool
 pub fn parse_use_path(alloc: Global, text: &str) -> Result<ParsedUsePath, UsePathFault>
     ensures ok { IfOk result (λ path. use_path_of text.now ≡ Some path) }
     ensures invalid { (result ≡ Err UsePathFault.Invalid) ↔ (use_path_of text.now ≡ None) }
-    ensures grammar { (path : ParsedUsePath) → (use_path_of text.now ≡ Some path) ↔ IsUsePath text.now path }
+    ensures grammar { (path : ParsedUsePath)
+        → (use_path_of text.now ≡ Some path) ↔ IsUsePath text.now path }
 {
     if is_kebab_name(text) {
         Ok(ParsedUsePath::Name(Text::try_from_str(alloc, text)?))
@@ -150,8 +151,10 @@ fn parse_package_path(
     package_name: &str,
     tail: &str,
 ) -> Result<ParsedUsePath, UsePathFault>
-    ensures ok { IfOk result (λ path. package_path_of namespace.now package_name.now tail.now ≡ Some path) }
-    ensures invalid { (result ≡ Err UsePathFault.Invalid) ↔ (package_path_of namespace.now package_name.now tail.now ≡ None) }
+    ensures ok { IfOk result
+        (λ path. package_path_of namespace.now package_name.now tail.now ≡ Some path) }
+    ensures invalid { (result ≡ Err UsePathFault.Invalid)
+        ↔ (package_path_of namespace.now package_name.now tail.now ≡ None) }
 {
     let (name, _) = parts_around(tail, '@');
     if !(is_kebab_name(namespace) && is_kebab_name(package_name) && is_kebab_name(name)) {
@@ -169,7 +172,11 @@ fn package_path(
     version: Option<Version>,
     name: &str,
 ) -> Result<ParsedUsePath, AllocError>
-    ensures { IfOk result (λ path. path ≡ ParsedUsePath.Package (record { namespace = namespace.now; name = package_name.now; version = version }) name.now) }
+    ensures { IfOk result (λ path.
+        path
+        ≡ ParsedUsePath.Package
+        (record { namespace = namespace.now; name = package_name.now; version = version })
+        name.now) }
 {
     let namespace = Text::try_from_str(alloc, namespace)?;
     let package_name = Text::try_from_str(alloc, package_name)?;

@@ -21,8 +21,10 @@ use Rattle.wit_graph_data.specs.steps.Parts.{is_future}
 -- what was told and what the types on the stack still tell is what the roots tell
 pub record IsUnfolding (types : List TypeDef) (held : List (List ℕ)) (roots stack told : List ℕ) : Type 0 where
   pub in_range : (t : ℕ) → Contains stack t → t < length held
-  pub reached : (t : ℕ) → Contains stack t → Contains (first_of_each (flat_map (post_order held) roots)) t
-  pub tells : flat_map (futures_of types held) stack ++ reverse told ≡ flat_map (futures_of types held) roots
+  pub reached : (t : ℕ) → Contains stack t
+      → Contains (first_of_each (flat_map (post_order held) roots)) t
+  pub tells : flat_map (futures_of types held) stack ++ reverse told
+      ≡ flat_map (futures_of types held) roots
 
 -- ---- the order of what roots reach
 

@@ -8,7 +8,9 @@ use Rattle.wit_graph_data.specs.Queries.{HasAllBitsValid, is_number}
 
 -- each flag that is there says whether all bits of its type are valid
 abbrev pub AreValidBits : List TypeDef → List Bool → Type 0
-AreValidBits types flags = (t : ℕ) (flag : Bool) → slice_get flags t ≡ Some flag → IsTrue flag ↔ HasAllBitsValid types (type.Id t)
+AreValidBits types flags =
+    (t : ℕ) (flag : Bool) → slice_get flags t ≡ Some flag
+    → IsTrue flag ↔ HasAllBitsValid types (type.Id t)
 
 -- and each type has one
 pub record AreValidBitsOf (types : List TypeDef) (flags : List Bool) : Type 0 where

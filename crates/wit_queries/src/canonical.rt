@@ -20,8 +20,9 @@ pub fn canonicalized_id_of_name(
     package: PackageId,
     name: &str,
 ) -> ResolveResult<String>
-    ensures text { IfOk result (λ text. string_bytes text ≡ canonical_id_text graph.now.packages «package» name.now) }
-    ensures err { IfErr result (λ e. e ≡ OutOfMemory) }
+    ensures text { IfOk result
+        (λ text. string_bytes text ≡ canonical_id_text graph.now.packages «package» name.now) }
+    ensures memory { IfErr result (λ e. e ≡ OutOfMemory) }
 {
     match graph.packages.get(package.index()) {
         Some(package) => Ok(canonical_id_in(alloc, &package.name, name)?),
@@ -38,8 +39,10 @@ pub fn canonicalized_id_of(
     graph: &Graph,
     id: InterfaceId,
 ) -> ResolveResult<Option<String>>
-    ensures text { IfOk result (λ text. option_map string_bytes text ≡ canonical_interface_id_at graph.now.packages graph.now.interfaces id) }
-    ensures err { IfErr result (λ e. e ≡ OutOfMemory) }
+    ensures text { IfOk result (λ text.
+        option_map string_bytes text
+        ≡ canonical_interface_id_at graph.now.packages graph.now.interfaces id) }
+    ensures memory { IfErr result (λ e. e ≡ OutOfMemory) }
 {
     let Some(interface) = graph.interfaces.get(id.index()) else {
         return Ok(None);
@@ -62,8 +65,10 @@ pub fn name_canonicalized_world_key(
     graph: &Graph,
     key: &WorldKey,
 ) -> ResolveResult<String>
-    ensures text { IfOk result (λ text. string_bytes text ≡ canonical_key_text graph.now.packages graph.now.interfaces key.now) }
-    ensures err { IfErr result (λ e. e ≡ OutOfMemory) }
+    ensures text { IfOk result (λ text.
+        string_bytes text
+        ≡ canonical_key_text graph.now.packages graph.now.interfaces key.now) }
+    ensures memory { IfErr result (λ e. e ≡ OutOfMemory) }
 {
     match key {
         WorldKey::Name(label) => Ok(String::from_str(alloc, label.as_str())?),
@@ -85,8 +90,10 @@ pub fn version_suffix_of(
     graph: &Graph,
     id: InterfaceId,
 ) -> ResolveResult<Option<String>>
-    ensures text { IfOk result (λ text. option_map string_bytes text ≡ version_suffix_of graph.now.packages graph.now.interfaces id) }
-    ensures err { IfErr result (λ e. e ≡ OutOfMemory) }
+    ensures text { IfOk result (λ text.
+        option_map string_bytes text
+        ≡ version_suffix_of graph.now.packages graph.now.interfaces id) }
+    ensures memory { IfErr result (λ e. e ≡ OutOfMemory) }
 {
     let Some(interface) = graph.interfaces.get(id.index()) else {
         return Ok(None);
@@ -106,7 +113,8 @@ pub fn version_suffix_of(
 
 /// `namespace:package/name`, and `@track` where the package has a version.
 fn canonical_id_in(alloc: Global, package: &PackageName, name: &str) -> Result<String, AllocError>
-    ensures { IfOk result (λ text. string_bytes text ≡ canonical_id_text_in «package».now name.now) }
+    ensures { IfOk result
+        (λ text. string_bytes text ≡ canonical_id_text_in «package».now name.now) }
 {
     let namespace = &package.namespace;
     let package_name = &package.name;

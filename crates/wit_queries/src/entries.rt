@@ -51,8 +51,9 @@ pub fn external_id_value(
     graph: &Graph,
     item: &WorldItem,
 ) -> ResolveResult<Option<String>>
-    ensures text { IfOk result (λ text. option_map string_bytes text ≡ external_id_value graph.now.types item.now) }
-    ensures err { IfErr result (λ e. e ≡ OutOfMemory) }
+    ensures text { IfOk result
+        (λ text. option_map string_bytes text ≡ external_id_value graph.now.types item.now) }
+    ensures memory { IfErr result (λ e. e ≡ OutOfMemory) }
 {
     match external_id_of(graph, item) {
         Some(id) => Ok(Some(String::from_str(alloc, id.as_str())?)),

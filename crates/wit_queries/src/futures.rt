@@ -33,8 +33,9 @@ pub fn find_futures_and_streams(
     function: &Function,
 ) -> ResolveResult<Vec<TypeId>>
     requires acyclic { IsAcyclic (type_references graph.now.types) }
-    ensures found { IfOk result (λ found. found.items ≡ futures_and_streams graph.now.types function.now) }
-    ensures err { IfErr result (λ e. e ≡ OutOfMemory) }
+    ensures found { IfOk result
+        (λ found. found.items ≡ futures_and_streams graph.now.types function.now) }
+    ensures memory { IfErr result (λ e. e ≡ OutOfMemory) }
 {
     let types = graph.types.as_slice();
     let places = signature_places(alloc, types.len(), function)?;
@@ -57,8 +58,9 @@ pub fn holds_future_or_stream(
     ty: TypeId,
 ) -> ResolveResult<bool>
     requires acyclic { IsAcyclic (type_references graph.now.types) }
-    ensures told { IfOk result (λ told. told ≡ list_any (nat_eq ty) (futures_and_streams graph.now.types function.now)) }
-    ensures err { IfErr result (λ e. e ≡ OutOfMemory) }
+    ensures told { IfOk result
+        (λ told. told ≡ list_any (nat_eq ty) (futures_and_streams graph.now.types function.now)) }
+    ensures memory { IfErr result (λ e. e ≡ OutOfMemory) }
 {
     let types = graph.types.as_slice();
     if !is_future(types, ty.index()) {
@@ -130,7 +132,8 @@ fn futures_below(
 ) -> Result<Vec<TypeId>, AllocError>
     requires acyclic { IsAcyclic held.now }
     requires roots { All (λ t. t < length held.now) roots.now }
-    ensures { IfOk result (λ found. found.items ≡ flat_map (futures_of types.now held.now) roots.now) }
+    ensures { IfOk result
+        (λ found. found.items ≡ flat_map (futures_of types.now held.now) roots.now) }
 {
     let order = post_order_of_roots(alloc, held, roots)?;
     let holding = mark_holding(alloc, types, held, order.as_slice())?;
@@ -149,7 +152,8 @@ fn mark_holding(
     requires in_range { All (λ t. t < length held.now) order.now }
     requires uses_first { UsesFirst held.now [] order.now }
     ensures nodes { IfOk result (λ marked. marked.nodes ≡ length held.now) }
-    ensures others { IfOk result (λ marked. OthersHoldNone types.now held.now order.now marked.order) }
+    ensures others { IfOk result
+        (λ marked. OthersHoldNone types.now held.now order.now marked.order) }
 {
     let mut marked = Listing::new(alloc, held.len())?;
     for place in order {
@@ -169,7 +173,8 @@ fn mark(
     requires nodes { marked.old.nodes ≡ length held.now }
     requires in_range { place < length held.now }
     ensures nodes { marked.new.nodes ≡ marked.old.nodes }
-    ensures others { OnOk result (KeepsOthers types.now held.now marked.old.order marked.new.order place) }
+    ensures others { OnOk result
+        (KeepsOthers types.now held.now marked.old.order marked.new.order place) }
 {
     if marked.has(place) {
         return Ok(());
@@ -207,8 +212,10 @@ fn unfold(
     requires acyclic { IsAcyclic held.now }
     requires nodes { holding.now.nodes ≡ length held.now }
     requires roots { All (λ t. t < length held.now) roots.now }
-    requires others { OthersHoldNone types.now held.now (first_of_each (flat_map (post_order held.now) roots.now)) holding.now.order }
-    ensures { IfOk result (λ found. found.items ≡ flat_map (futures_of types.now held.now) roots.now) }
+    requires others { OthersHoldNone types.now held.now
+        (first_of_each (flat_map (post_order held.now) roots.now)) holding.now.order }
+    ensures { IfOk result
+        (λ found. found.items ≡ flat_map (futures_of types.now held.now) roots.now) }
 {
     let mut found = Vec::new(alloc);
     let mut stack = Items::new(alloc);
@@ -230,7 +237,8 @@ fn push_holding(
     places: &[usize],
 ) -> Result<(), AllocError>
     requires { All (λ t. t < holding.now.nodes) places.now }
-    ensures { OnOk result (stack.new ≡ stack.old ++ filter (λ t. list_any (nat_eq t) holding.now.order) places.now) }
+    ensures { OnOk result (stack.new
+        ≡ stack.old ++ filter (λ t. list_any (nat_eq t) holding.now.order) places.now) }
 {
     for place in places {
         if holding.has(*place) {

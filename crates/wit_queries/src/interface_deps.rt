@@ -33,7 +33,8 @@ impl<'a> Model for InterfaceDirectDeps<'a> {
 impl<'a> InterfaceDirectDeps<'a> {
     /// Those of the interface of an id, where there is one.
     pub(crate) fn of(graph: &'a Graph, id: InterfaceId) -> Option<InterfaceDirectDeps<'a>>
-        ensures { result ≡ option_map (interface_uses graph.now.types) (slice_get graph.now.interfaces id) }
+        ensures { result
+            ≡ option_map (interface_uses graph.now.types) (slice_get graph.now.interfaces id) }
     {
         let interface = graph.interfaces.get(id.index())?;
         Some(InterfaceDirectDeps {
@@ -73,7 +74,8 @@ pub fn interface_direct_deps(graph: &Graph, id: InterfaceId) -> InterfaceDirectD
 /// closure over uses, and elaborating all worlds of a graph, ask for. It is told of any graph, also of one without
 /// worlds. The only error is want of memory.
 pub fn are_uses_acyclic(alloc: Global, graph: &Graph) -> Result<bool, AllocError>
-    ensures { IfOk result (λ acyclic. IsTrue acyclic ↔ IsAcyclic (uses_of graph.now.types graph.now.interfaces)) }
+    ensures { IfOk result
+        (λ acyclic. IsTrue acyclic ↔ IsAcyclic (uses_of graph.now.types graph.now.interfaces)) }
 {
     let uses = uses_of(alloc, graph.types.as_slice(), graph.interfaces.as_slice())?;
     is_acyclic(alloc, uses.as_slice())

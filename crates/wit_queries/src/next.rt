@@ -16,8 +16,10 @@ use wit_values::{NamesIter, TableIter};
 /// The next interface that the types of a table need.
 pub(crate) fn next_used(types: &[TypeDef], ids: &mut NamesIter<'_, TypeId>) -> Option<InterfaceId>
     ensures { MatchOption result
-        ((filter_map (λ (e : List ℕ × ℕ). type_interface_dep types.now e.1) ids.old ≡ []) × (ids.new ≡ []))
-        (λ i. filter_map (λ (e : List ℕ × ℕ). type_interface_dep types.now e.1) ids.old ≡ i ∷ filter_map (λ (e : List ℕ × ℕ). type_interface_dep types.now e.1) ids.new) }
+        ((filter_map (λ (e : List ℕ × ℕ). type_interface_dep types.now e.1) ids.old ≡ [])
+        × (ids.new ≡ []))
+        (λ i. filter_map (λ (e : List ℕ × ℕ). type_interface_dep types.now e.1) ids.old ≡ i
+        ∷ filter_map (λ (e : List ℕ × ℕ). type_interface_dep types.now e.1) ids.new) }
 {
     while let Some((_, id)) = ids.next() {
         if let Some(used) = type_interface_dep(types, *id) {
@@ -63,8 +65,10 @@ pub(crate) fn next_use<'a>(
     rest: &mut NamesIter<'a, InterfaceId>,
 ) -> Option<InterfaceId>
     ensures { MatchOption result
-        ((remaining_uses graph.now.types graph.now.interfaces begun.old rest.old ≡ []) × (remaining_uses graph.now.types graph.now.interfaces begun.new rest.new ≡ []))
-        (λ i. remaining_uses graph.now.types graph.now.interfaces begun.old rest.old ≡ i ∷ remaining_uses graph.now.types graph.now.interfaces begun.new rest.new) }
+        ((remaining_uses graph.now.types graph.now.interfaces begun.old rest.old ≡ [])
+        × (remaining_uses graph.now.types graph.now.interfaces begun.new rest.new ≡ []))
+        (λ i. remaining_uses graph.now.types graph.now.interfaces begun.old rest.old ≡ i
+        ∷ remaining_uses graph.now.types graph.now.interfaces begun.new rest.new) }
 {
     loop {
         if let Some(uses) = begun
@@ -85,8 +89,10 @@ pub(crate) fn next_world_interface<'a>(
     rest: &mut NamesIter<'a, WorldId>,
 ) -> Option<InterfaceId>
     ensures { MatchOption result
-        ((remaining_interfaces graph.now.types graph.now.worlds begun.old rest.old ≡ []) × (remaining_interfaces graph.now.types graph.now.worlds begun.new rest.new ≡ []))
-        (λ i. remaining_interfaces graph.now.types graph.now.worlds begun.old rest.old ≡ i ∷ remaining_interfaces graph.now.types graph.now.worlds begun.new rest.new) }
+        ((remaining_interfaces graph.now.types graph.now.worlds begun.old rest.old ≡ [])
+        × (remaining_interfaces graph.now.types graph.now.worlds begun.new rest.new ≡ []))
+        (λ i. remaining_interfaces graph.now.types graph.now.worlds begun.old rest.old ≡ i
+        ∷ remaining_interfaces graph.now.types graph.now.worlds begun.new rest.new) }
 {
     loop {
         if let Some(named) = begun

@@ -34,13 +34,16 @@ impl<'a> Model for PackageInterfaces<'a> {
 
     ghost Value = { List ℕ };
 
-    ghost view = { λ a. remaining_uses a.graph.now.types a.graph.now.interfaces a.uses a.interfaces ++ remaining_interfaces a.graph.now.types a.graph.now.worlds a.named a.worlds };
+    ghost view = { λ a. remaining_uses a.graph.now.types a.graph.now.interfaces a.uses a.interfaces
+        ++ remaining_interfaces a.graph.now.types a.graph.now.worlds a.named a.worlds };
 }
 
 impl<'a> PackageInterfaces<'a> {
     /// Those of a package.
     fn of(graph: &'a Graph, package: &'a Package) -> PackageInterfaces<'a>
-        ensures { result ≡ package_interfaces graph.now.types graph.now.interfaces graph.now.worlds «package».now }
+        ensures { result
+            ≡ package_interfaces graph.now.types graph.now.interfaces graph.now.worlds
+            «package».now }
     {
         PackageInterfaces {
             graph,
@@ -105,7 +108,8 @@ fn next_other(
 ) -> Option<PackageId>
     ensures { MatchOption result
         ((other_packages interfaces.now «package» named.old ≡ []) × (named.new ≡ []))
-        (λ p. other_packages interfaces.now «package» named.old ≡ p ∷ other_packages interfaces.now «package» named.new) }
+        (λ p. other_packages interfaces.now «package» named.old ≡ p
+        ∷ other_packages interfaces.now «package» named.new) }
 {
     while let Some(interface) = named.next() {
         if let Some(other) = other_package(interfaces, package, interface) {
@@ -122,7 +126,9 @@ fn next_other(
 /// Source: `package_direct_deps` of wit-parser 0.263.0.
 pub fn package_direct_deps(graph: &Graph, id: PackageId) -> PackageDirectDeps<'_>
     requires { id < length graph.now.packages }
-    ensures { result ≡ package_direct_deps graph.now.types graph.now.interfaces graph.now.worlds graph.now.packages id }
+    ensures { result
+        ≡ package_direct_deps graph.now.types graph.now.interfaces graph.now.worlds
+        graph.now.packages id }
 {
     let package = graph.packages.at(id.index());
     PackageDirectDeps {
@@ -135,7 +141,10 @@ pub fn package_direct_deps(graph: &Graph, id: PackageId) -> PackageDirectDeps<'_
 /// Which package depends on which, as adjacency lists: list i has the direct dependencies of package i, both
 /// from 0. The only error is want of memory.
 pub fn package_uses(alloc: Global, graph: &Graph) -> Result<Items<Items<usize>>, AllocError>
-    ensures { IfOk result (λ rows. rows ≡ package_uses graph.now.types graph.now.interfaces graph.now.worlds graph.now.packages) }
+    ensures { IfOk result (λ rows.
+        rows
+        ≡ package_uses graph.now.types graph.now.interfaces graph.now.worlds
+        graph.now.packages) }
 {
     let mut rows = Items::new(alloc);
     for index in 0..graph.packages.len() {
@@ -148,7 +157,10 @@ pub fn package_uses(alloc: Global, graph: &Graph) -> Result<Items<Items<usize>>,
 /// The direct dependencies of a package, as a row.
 fn package_row(alloc: Global, graph: &Graph, id: PackageId) -> Result<Items<usize>, AllocError>
     requires { id < length graph.now.packages }
-    ensures { IfOk result (λ row. row ≡ package_direct_deps graph.now.types graph.now.interfaces graph.now.worlds graph.now.packages id) }
+    ensures { IfOk result (λ row.
+        row
+        ≡ package_direct_deps graph.now.types graph.now.interfaces graph.now.worlds
+        graph.now.packages id) }
 {
     let mut row = Items::new(alloc);
     for used in package_direct_deps(graph, id) {
@@ -163,9 +175,13 @@ fn package_row(alloc: Global, graph: &Graph, id: PackageId) -> Result<Items<usiz
 ///
 /// Source: `topological_packages` of wit-parser 0.263.0.
 pub fn topological_packages(alloc: Global, graph: &Graph) -> ResolveResult<Vec<PackageId>>
-    requires { IsAcyclic (package_uses graph.now.types graph.now.interfaces graph.now.worlds graph.now.packages) }
-    ensures order { IfOk result (λ order. order.items ≡ topological_packages graph.now.types graph.now.interfaces graph.now.worlds graph.now.packages) }
-    ensures err { IfErr result (λ e. e ≡ OutOfMemory) }
+    requires { IsAcyclic
+        (package_uses graph.now.types graph.now.interfaces graph.now.worlds graph.now.packages) }
+    ensures order { IfOk result (λ order.
+        order.items
+        ≡ topological_packages graph.now.types graph.now.interfaces graph.now.worlds
+        graph.now.packages) }
+    ensures memory { IfErr result (λ e. e ≡ OutOfMemory) }
 {
     let rows = package_uses(alloc, graph)?;
     let all = numbers_below(alloc, rows.len())?;

@@ -89,7 +89,9 @@ fn refusal(message: String) -> ResolveError
 
 fn world_path(alloc: Global, text: &str) -> ResolveResult<ParsedUsePath>
     ensures ok { IfOk result (λ path. use_path_of text.now ≡ Some path) }
-    ensures err { IfErr result (λ e. (e ≡ kinds.OutOfMemory) ⊎ ((use_path_of text.now ≡ None) × (e ≡ selection_error (no_path_text text.now)))) }
+    ensures cause { IfErr result (λ e.
+        (e ≡ kinds.OutOfMemory)
+        ⊎ ((use_path_of text.now ≡ None) × (e ≡ selection_error (no_path_text text.now)))) }
 {
     match parse_use_path(alloc, text) {
         Ok(path) => Ok(path),
@@ -158,7 +160,11 @@ fn version_from(
     requires { from ≤ length names.now }
     ensures within { IfSome result (λ i. i < length names.now) }
     ensures small { IfSome result (λ i. i < 2 ^ 63) }
-    ensures first { MatchOption result (versions_of name.now (drop from names.now) ≡ []) (λ i. IfSome (slice_get names.now i) (λ e. versions_of name.now (drop from names.now) ≡ e ∷ versions_of name.now (drop (i + 1) names.now))) }
+    ensures first { MatchOption result (versions_of name.now (drop from names.now) ≡ [])
+        (λ i.
+        IfSome (slice_get names.now i) (λ e.
+        versions_of name.now (drop from names.now)
+        ≡ e ∷ versions_of name.now (drop (i + 1) names.now))) }
 {
     if name.version.is_some() {
         return None;
@@ -187,7 +193,8 @@ fn several_versions(
     first: &PackageName,
     second: &PackageName,
 ) -> Result<ResolveError, AllocError>
-    ensures { IfOk result (λ e. e ≡ selection_error (several_versions_text name.now first.now second.now)) }
+    ensures { IfOk result
+        (λ e. e ≡ selection_error (several_versions_text name.now first.now second.now)) }
 {
     let first = VersionPart(&first.version);
     let second = VersionPart(&second.version);
@@ -235,7 +242,8 @@ fn world_named(alloc: Global, package: &Package, name: &str) -> ResolveResult<Wo
 
 /// The only world of the package of an id.
 fn only_world(alloc: Global, graph: &Graph, id: PackageId) -> ResolveResult<WorldId>
-    ensures { IsSelectionResult (in_package graph.now id (λ home. only_world graph.now id home home.worlds)) result }
+    ensures { IsSelectionResult
+        (in_package graph.now id (λ home. only_world graph.now id home home.worlds)) result }
 {
     match graph.packages.get(id.index()) {
         Some(package) => only_world_of(alloc, graph, id, package),
@@ -249,7 +257,8 @@ fn only_world_of(
     id: PackageId,
     package: &Package,
 ) -> ResolveResult<WorldId>
-    ensures { IsSelectionResult (only_world graph.now id «package».now «package».now.worlds) result }
+    ensures { IsSelectionResult (only_world graph.now id «package».now «package».now.worlds)
+        result }
 {
     match package.worlds.len() {
         0 => {
@@ -270,8 +279,9 @@ fn several_worlds(
     id: PackageId,
     package: &Package,
 ) -> ResolveResult<ResolveError>
-    ensures ok { IfOk result (λ e. e ≡ selection_error (several_worlds_text graph.now id «package».now)) }
-    ensures err { IfErr result (λ e. e ≡ kinds.OutOfMemory) }
+    ensures ok { IfOk result
+        (λ e. e ≡ selection_error (several_worlds_text graph.now id «package».now)) }
+    ensures memory { IfErr result (λ e. e ≡ kinds.OutOfMemory) }
 {
     let name = &package.name;
     let worlds = worlds_of(alloc, graph, id, package)?;
@@ -283,7 +293,7 @@ fn several_worlds(
 /// A line with the id text of each world of the graph, by id.
 fn all_worlds(alloc: Global, graph: &Graph) -> ResolveResult<String>
     ensures ok { IfOk result (λ text. string_bytes text ≡ all_world_lines graph.now) }
-    ensures err { IfErr result (λ e. e ≡ kinds.OutOfMemory) }
+    ensures memory { IfErr result (λ e. e ≡ kinds.OutOfMemory) }
 {
     let mut lines = String::new(alloc);
     for world in graph.worlds.as_slice() {
@@ -302,8 +312,9 @@ fn worlds_of(
     id: PackageId,
     package: &Package,
 ) -> ResolveResult<String>
-    ensures ok { IfOk result (λ text. string_bytes text ≡ package_world_lines graph.now id «package».now) }
-    ensures err { IfErr result (λ e. e ≡ kinds.OutOfMemory) }
+    ensures ok { IfOk result
+        (λ text. string_bytes text ≡ package_world_lines graph.now id «package».now) }
+    ensures memory { IfErr result (λ e. e ≡ kinds.OutOfMemory) }
 {
     let mut lines = String::new(alloc);
     for (name, _) in package.worlds.iter() {

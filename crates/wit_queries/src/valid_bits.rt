@@ -57,7 +57,7 @@ pub fn add_valid_bits(
     requires first { length flags.old ≤ length types.now }
     requires known { AreValidBits types.now flags.old }
     ensures ok { OnOk result (AreValidBitsOf types.now flags.new) }
-    ensures err { OnErr result (flags.new ≡ flags.old) }
+    ensures unchanged { OnErr result (flags.new ≡ flags.old) }
 {
     let first = flags.len();
     let new = vec![in alloc; true; types.len() - first]?;

@@ -24,13 +24,15 @@ impl<'a> Model for WorldInterfaces<'a> {
 
     ghost Value = { List ℕ };
 
-    ghost view = { λ a. entry_interfaces a.types.now a.imports ++ entry_interfaces a.types.now a.exports };
+    ghost view = { λ a. entry_interfaces a.types.now a.imports
+        ++ entry_interfaces a.types.now a.exports };
 }
 
 impl<'a> WorldInterfaces<'a> {
     /// Those of the world of an id, where there is one.
     pub(crate) fn of(graph: &'a Graph, id: WorldId) -> Option<WorldInterfaces<'a>>
-        ensures { result ≡ option_map (world_interfaces graph.now.types) (slice_get graph.now.worlds id) }
+        ensures { result
+            ≡ option_map (world_interfaces graph.now.types) (slice_get graph.now.worlds id) }
     {
         let world = graph.worlds.get(id.index())?;
         Some(WorldInterfaces {

@@ -27,7 +27,9 @@ include_stability other from into = joined_stability from into
 
 -- an interface that stands under its own key, with a stability joined to it
 abbrev pub joined_item : Bool → WorldItem → WorldItem → WorldItem
-joined_item other (item.Interface i from docs span external_id) (item.Interface i' into docs' span' external_id') = item.Interface i' (include_stability other from into) docs' span' external_id'
+joined_item other (item.Interface i from docs span external_id)
+    (item.Interface i' into docs' span' external_id') =
+    item.Interface i' (include_stability other from into) docs' span' external_id'
 joined_item other from into = into
 
 -- an entry that is there keeps all but its stability, which that of a brought entry of its key joins

@@ -36,13 +36,15 @@ FaultOverflows old files span =
     (2 ^ 32 ≤ old.source_map.end + files.end) ⊎ (2 ^ 32 ≤ end_of span + old.source_map.end)
 
 -- its files follow what is there, and its place is moved with them
-pub record IsPlaced (old : State) (files : Sources) (span : Option (ℕ × ℕ)) (message : List ℕ) (told : SourceFault) (new : State) : Type 0 where
+pub record IsPlaced (old : State) (files : Sources) (span : Option (ℕ × ℕ)) (message : List ℕ)
+    (told : SourceFault) (new : State) : Type 0 where
   pub told_is : told ≡ fault.Parse (moved_by old.source_map.end span) message
   pub placed : new ≡ record old { source_map = with_sources old.source_map files }
   pub fits : FaultOverflows old files span → ⊥
 
 -- there is no room for its files (27, and 28 for memory), and nothing has changed
-pub record IsNotPlaced (old : State) (files : Sources) (span : Option (ℕ × ℕ)) (told : SourceFault) (new : State) : Type 0 where
+pub record IsNotPlaced (old : State) (files : Sources) (span : Option (ℕ × ℕ)) (told : SourceFault)
+    (new : State) : Type 0 where
   pub cause : (told ≡ fault.Resolve OutOfMemory)
       ⊎ ((told ≡ fault.Resolve OffsetOverflow) × FaultOverflows old files span)
   pub same : new ≡ old
@@ -56,7 +58,8 @@ pub record PushesAnswer (old : State) (group : UnresolvedPackageGroup) (id : ℕ
   pub accepted : NoCause (IsGroupsCause old.features old.graph old.source_map.end (group ∷ []))
 
 -- a group is refused
-pub record RefusesAnswer (old : State) (group : UnresolvedPackageGroup) (told : SourceFault) (new : State) : Type 0 where
+pub record RefusesAnswer (old : State) (group : UnresolvedPackageGroup) (told : SourceFault)
+    (new : State) : Type 0 where
   pub kind : ResolveErrorKind
   pub told_is : told ≡ fault.Resolve kind
   pub refuses : RefusesGroups old group [] kind new
@@ -89,7 +92,8 @@ module _ {F : Type 0} (calls : Once F (Sources × Unit {0}) (Result UnresolvedPa
       pub pushes : PushesAnswer old group id new
 
   -- a parse gave an answer of the file of which no package comes
-  pub record RefusesParsed (old : State) (path contents : List ℕ) (told : SourceFault) (new : State) : Type 0 where
+  pub record RefusesParsed (old : State) (path contents : List ℕ) (told : SourceFault)
+      (new : State) : Type 0 where
     pub answer : Result UnresolvedPackageGroup ParseFault
     pub given : MayParse path contents answer
     pub tells : RefusesParse old answer told new

@@ -51,7 +51,8 @@ with_files sources (group ∷ groups) = with_files (with_sources sources group.s
 -- groups are added: their packages in order, dependencies first, their files at the end, main group first,
 -- and the answer is the id of the main group's main package; no cause holds against their order, against
 -- the end of their files or against a package
-pub record PushesGroups (old : State) (main : UnresolvedPackageGroup) (deps : List UnresolvedPackageGroup) (id : ℕ) (new : State) : Type 0 where
+pub record PushesGroups (old : State) (main : UnresolvedPackageGroup)
+    (deps : List UnresolvedPackageGroup) (id : ℕ) (new : State) : Type 0 where
   pub order : List ℕ
   pub sorted : List Unresolved
   pub ids : List ℕ
@@ -65,7 +66,8 @@ pub record PushesGroups (old : State) (main : UnresolvedPackageGroup) (deps : Li
   pub files : new.source_map ≡ with_files old.source_map (main ∷ deps)
 
 -- the addition of groups is refused with this error
-pub record RefusesGroups (old : State) (main : UnresolvedPackageGroup) (deps : List UnresolvedPackageGroup) (error : ResolveErrorKind) (new : State) : Type 0 where
+pub record RefusesGroups (old : State) (main : UnresolvedPackageGroup)
+    (deps : List UnresolvedPackageGroup) (error : ResolveErrorKind) (new : State) : Type 0 where
   pub cause : (error ≡ OutOfMemory)
       ⊎ IsGroupsCause old.features old.graph old.source_map.end (main ∷ deps) error
   -- where their files end past 4294967295, no other cause is told
@@ -81,14 +83,17 @@ pub record RefusesGroups (old : State) (main : UnresolvedPackageGroup) (deps : L
 
 -- the graph is changed at the world of a name in a package of a name: no cause holds against it, and all else is as
 -- it was
-pub record Transforms (old : State) (home : PackageName) (world : List ℕ) (changed : ℕ → Graph) (IsCauseOf : ℕ → ResolveErrorKind → Type 0) (new : State) : Type 0 where
+pub record Transforms (old : State) (home : PackageName) (world : List ℕ) (changed : ℕ → Graph)
+    (IsCauseOf : ℕ → ResolveErrorKind → Type 0) (new : State) : Type 0 where
   pub w : ℕ
   pub there : world_named old.graph home world ≡ Some w
   pub accepted : NoCause (IsCauseOf w)
   pub is_changed : new ≡ record old { graph = changed w }
 
 -- a change is refused, and nothing has changed
-pub record RefusesTransform (old : State) (home : PackageName) (world : List ℕ) (IsCauseOf : ℕ → ResolveErrorKind → Type 0) (error : ResolveErrorKind) (new : State) : Type 0 where
+pub record RefusesTransform (old : State) (home : PackageName) (world : List ℕ)
+    (IsCauseOf : ℕ → ResolveErrorKind → Type 0) (error : ResolveErrorKind)
+    (new : State) : Type 0 where
   pub w : ℕ
   pub there : world_named old.graph home world ≡ Some w
   pub cause : (error ≡ OutOfMemory) ⊎ IsCauseOf w error

@@ -77,7 +77,7 @@ pub fn run(
 ) -> ResolveResult<Vec<Reply>>
     requires { AllByRecursion IsCommandShaped commands.items }
     ensures ok { IfOk result (λ replies. Run resolve.old commands.items replies.items resolve.new) }
-    ensures err { OnErr result (resolve.new ≡ resolve.old) }
+    ensures unchanged { OnErr result (resolve.new ≡ resolve.old) }
     ensures cause { IfErr result (λ kind. kind ≡ OutOfMemory) }
 {
     let mut replies = Vec::with_capacity(alloc, commands.len())?;

@@ -25,7 +25,7 @@ impl Resolve {
     ) -> ResolveResult<bool>
         ensures told { IfOk result
             (λ told. told ≡ can_name_import self.now.graph mangling import.now) }
-        ensures err { IfErr result (λ kind. kind ≡ OutOfMemory) }
+        ensures memory { IfErr result (λ kind. kind ≡ OutOfMemory) }
     {
         can_name_import(alloc, self.graph(), mangling, import)
     }
@@ -53,7 +53,7 @@ impl Resolve {
         ensures names { IfOk result (λ names.
             (string_bytes names.0, string_bytes names.1)
             ≡ import_names self.now.graph mangling import.now) }
-        ensures err { IfErr result (λ kind. kind ≡ OutOfMemory) }
+        ensures memory { IfErr result (λ kind. kind ≡ OutOfMemory) }
     {
         wasm_import_name(alloc, self.graph(), mangling, import)
     }
@@ -71,7 +71,7 @@ impl Resolve {
         requires { can_name_export self.now.graph mangling export.now ≡ true }
         ensures name { IfOk result
             (λ name. string_bytes name ≡ export_name self.now.graph mangling export.now) }
-        ensures err { IfErr result (λ kind. kind ≡ OutOfMemory) }
+        ensures memory { IfErr result (λ kind. kind ≡ OutOfMemory) }
     {
         wasm_export_name(alloc, self.graph(), mangling, export)
     }

@@ -34,7 +34,7 @@ pub(crate) fn place_groups(
     ensures ok { IfOk result (λ packages. packages ≡ packages_of source_map.old.end (main ∷ deps)) }
     ensures files { OnOk result (source_map.new ≡ with_files source_map.old (main ∷ deps)) }
     ensures fits { OnOk result (files_end source_map.old.end (main ∷ deps) < 2 ^ 32) }
-    ensures err { OnErr result (source_map.new ≡ source_map.old) }
+    ensures unchanged { OnErr result (source_map.new ≡ source_map.old) }
     ensures cause { IfErr result
         (λ kind. (kind ≡ OutOfMemory) ⊎ FilesPassTheEnd source_map.old.end (main ∷ deps) kind) }
 {
@@ -129,7 +129,7 @@ pub(crate) fn add_packages(
     ensures ok { IfOk result
         (λ id. AreAddedTogether features.now graph.old packages name.now id graph.new) }
     ensures kept { AreKept graph.new kept.new }
-    ensures err { OnErr result (graph.new ≡ graph.old) }
+    ensures unchanged { OnErr result (graph.new ≡ graph.old) }
     ensures cause { IfErr result (λ kind.
         (kind ≡ OutOfMemory)
         ⊎ (IsSortCause packages kind ⊎ IsAdditionsCause features.now graph.old packages kind)) }

@@ -63,7 +63,7 @@ impl Kept {
         ensures ok { OnOk result ((graph.new ≡ graph.old)
             × ((self.new.caches ≡ self.old.caches)
             × AreValidBitsOf graph.new.types self.new.valid_bits)) }
-        ensures err { OnErr result ((graph.new ≡ cut_at mark graph.old)
+        ensures unchanged { OnErr result ((graph.new ≡ cut_at mark graph.old)
             × ((self.new.caches ≡ caches_cut_at known self.old.caches)
             × (self.new.valid_bits ≡ self.old.valid_bits))) }
     {
@@ -113,7 +113,7 @@ pub(crate) fn append_kept(
     ensures ok { IfOk result
         (λ id. IsAdded (addition features.now graph.old «package» span_offset) graph.new id) }
     ensures kept { AreKept graph.new kept.new }
-    ensures err { OnErr result (graph.new ≡ graph.old) }
+    ensures unchanged { OnErr result (graph.new ≡ graph.old) }
     ensures cause { IfErr result (λ kind.
         (kind ≡ OutOfMemory)
         ⊎ IsAdditionCause (addition features.now graph.old «package» span_offset) kind) }

@@ -25,7 +25,7 @@ pub(crate) fn merge_kept_by_track(
     requires world { world < length graph.old.worlds }
     ensures graph { OnOk result (graph.new ≡ semver_merged rule graph.old world) }
     ensures kept { AreKept graph.new kept.new }
-    ensures err { OnErr result (graph.new ≡ graph.old) }
+    ensures unchanged { OnErr result (graph.new ≡ graph.old) }
     ensures cause { IfErr result
         (λ kind. (kind ≡ OutOfMemory) ⊎ IsSemverMergeCause rule graph.old world kind) }
     ensures refuses { (kind : ResolveErrorKind) → IsSemverMergeCause rule graph.old world kind

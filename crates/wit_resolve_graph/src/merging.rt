@@ -37,7 +37,7 @@ pub(crate) fn merge_kept(
     ensures remap { IfOk result
         (λ remap. remap ≡ merge_remap (merge_of_graphs_by graph.old other.now offset)) }
     ensures kept { AreKept graph.new kept.new }
-    ensures err { OnErr result (graph.new ≡ graph.old) }
+    ensures unchanged { OnErr result (graph.new ≡ graph.old) }
     ensures cause { IfErr result (λ kind.
         (kind ≡ OutOfMemory)
         ⊎ IsMergeCause (merge_of_graphs_by graph.old other.now offset) kind) }
@@ -78,7 +78,7 @@ fn append_merge_kept(
     ensures remap { IfOk result
         (λ remap. remap ≡ merge_remap (merge_of_graphs_by graph.old other.now offset)) }
     ensures kept { AreKept graph.new kept.new }
-    ensures err { OnErr result (graph.new ≡ graph.old) }
+    ensures unchanged { OnErr result (graph.new ≡ graph.old) }
     ensures cause { IfErr result (λ kind.
         (kind ≡ OutOfMemory)
         ⊎ IsMergeCause (merge_of_graphs_by graph.old other.now offset) kind) }

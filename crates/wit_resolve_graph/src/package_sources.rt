@@ -44,7 +44,7 @@ impl PackageSources {
     ) -> ResolveResult<PackageSources>
         ensures ok { IfOk result
             (λ s. s ≡ record { sources = (source.now ∷ []) ∷ []; places = («package», 0) ∷ [] }) }
-        ensures err { IfErr result (λ e. e ≡ OutOfMemory) }
+        ensures memory { IfErr result (λ e. e ≡ OutOfMemory) }
     {
         Ok(single_source(alloc, package, source)?)
     }
@@ -61,7 +61,7 @@ impl PackageSources {
         requires { ArePlaced places.entries (length source_maps.items) }
         ensures ok { IfOk result
             (λ s. s ≡ record { sources = names_of source_maps.items; places = places.entries }) }
-        ensures err { IfErr result (λ e. e ≡ OutOfMemory) }
+        ensures memory { IfErr result (λ e. e ≡ OutOfMemory) }
     {
         let sources = names_of(alloc, &source_maps)?;
         Ok(PackageSources { sources, places })
@@ -74,7 +74,7 @@ impl PackageSources {
     pub fn source_names(&self, alloc: Global) -> ResolveResult<Vec<&str>>
         ensures ok { IfOk result
             (λ names. map (λ name. name.now) names.items ≡ all_names self.now) }
-        ensures err { IfErr result (λ e. e ≡ OutOfMemory) }
+        ensures memory { IfErr result (λ e. e ≡ OutOfMemory) }
     {
         let mut seen = NameSet::new(alloc);
         let mut found = Vec::new(alloc);

@@ -38,7 +38,7 @@ impl Resolve {
             → MayParse F.FnOnce parse path.now contents.now (Ok group) → IsGroupShaped group }
         ensures ok { IfOk result
             (λ id. PushesSource F.FnOnce parse self.old path.now contents.now id self.new) }
-        ensures err { IfErr result (λ fault.
+        ensures cause { IfErr result (λ fault.
             RefusesSource F.FnOnce parse self.old path.now contents.now fault self.new) }
         ensures refuses { ((group : UnresolvedPackageGroup)
             → MayParse F.FnOnce parse path.now contents.now (Ok group)

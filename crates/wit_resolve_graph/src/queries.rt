@@ -85,7 +85,7 @@ impl Resolve {
             order.items
             ≡ topological_packages self.now.graph.types self.now.graph.interfaces
             self.now.graph.worlds self.now.graph.packages) }
-        ensures err { IfErr result (λ kind. kind ≡ OutOfMemory) }
+        ensures memory { IfErr result (λ kind. kind ≡ OutOfMemory) }
     {
         topological_packages(alloc, self.graph())
     }
@@ -105,7 +105,7 @@ impl Resolve {
         ensures text { IfOk result (λ text.
             option_map string_bytes text
             ≡ canonical_interface_id_at self.now.graph.packages self.now.graph.interfaces id) }
-        ensures err { IfErr result (λ kind. kind ≡ OutOfMemory) }
+        ensures memory { IfErr result (λ kind. kind ≡ OutOfMemory) }
     {
         canonicalized_id_of(alloc, self.graph(), id)
     }
@@ -122,7 +122,7 @@ impl Resolve {
     ) -> ResolveResult<String>
         ensures text { IfOk result (λ text.
             string_bytes text ≡ canonical_id_text self.now.graph.packages «package» name.now) }
-        ensures err { IfErr result (λ kind. kind ≡ OutOfMemory) }
+        ensures memory { IfErr result (λ kind. kind ≡ OutOfMemory) }
     {
         canonicalized_id_of_name(alloc, self.graph(), package, name)
     }
@@ -139,7 +139,7 @@ impl Resolve {
         ensures text { IfOk result (λ text.
             string_bytes text
             ≡ canonical_key_text self.now.graph.packages self.now.graph.interfaces key.now) }
-        ensures err { IfErr result (λ kind. kind ≡ OutOfMemory) }
+        ensures memory { IfErr result (λ kind. kind ≡ OutOfMemory) }
     {
         name_canonicalized_world_key(alloc, self.graph(), key)
     }
@@ -153,7 +153,7 @@ impl Resolve {
         ensures text { IfOk result (λ text.
             option_map string_bytes text
             ≡ version_suffix_of self.now.graph.packages self.now.graph.interfaces id) }
-        ensures err { IfErr result (λ kind. kind ≡ OutOfMemory) }
+        ensures memory { IfErr result (λ kind. kind ≡ OutOfMemory) }
     {
         version_suffix_of(alloc, self.graph(), id)
     }
@@ -182,7 +182,7 @@ impl Resolve {
     ) -> ResolveResult<Option<String>>
         ensures text { IfOk result (λ text.
             option_map string_bytes text ≡ external_id_value self.now.graph.types item.now) }
-        ensures err { IfErr result (λ kind. kind ≡ OutOfMemory) }
+        ensures memory { IfErr result (λ kind. kind ≡ OutOfMemory) }
     {
         external_id_value(alloc, self.graph(), item)
     }
@@ -211,7 +211,7 @@ impl Resolve {
     ) -> ResolveResult<Vec<TypeId>>
         ensures found { IfOk result
             (λ found. found.items ≡ futures_and_streams self.now.graph.types function.now) }
-        ensures err { IfErr result (λ kind. kind ≡ OutOfMemory) }
+        ensures memory { IfErr result (λ kind. kind ≡ OutOfMemory) }
     {
         find_futures_and_streams(alloc, self.graph(), function)
     }

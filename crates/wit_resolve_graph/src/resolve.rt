@@ -55,7 +55,12 @@ impl Model for Resolve {
 
     ghost Value = { State };
 
-    ghost view = { λ a. record { graph = a.graph; features = a.features; source_map = a.source_map; track_rule = a.track_rule } };
+    ghost view = { λ a. record {
+      graph = a.graph;
+      features = a.features;
+      source_map = a.source_map;
+      track_rule = a.track_rule;
+    } };
 
     ghost invariant = { λ a. AreKept a.graph a.kept };
 }
@@ -95,7 +100,7 @@ impl Resolve {
               track_rule = track_rule;
             })) }
         ensures valid { IfOk result (λ made. IsTrue (is_some made) ↔ IsValid graph) }
-        ensures err { IfErr result (λ kind. kind ≡ OutOfMemory) }
+        ensures memory { IfErr result (λ kind. kind ≡ OutOfMemory) }
     {
         if !is_valid(alloc, &graph)? {
             return Ok(None);
@@ -124,7 +129,7 @@ impl Resolve {
     /// Source: `assert_valid` of wit-parser 0.263.0.
     pub fn assert_valid(&self, alloc: Global) -> ResolveResult<bool>
         ensures valid { IfOk result (λ valid. IsTrue valid) }
-        ensures err { IfErr result (λ kind. kind ≡ OutOfMemory) }
+        ensures memory { IfErr result (λ kind. kind ≡ OutOfMemory) }
     {
         is_valid(alloc, self.graph())
     }
@@ -223,7 +228,7 @@ impl Resolve {
     pub fn add_feature(&mut self, alloc: Global, name: &str) -> ResolveResult<()>
         ensures ok { OnOk result
             (self.new ≡ record self.old { features = with_feature self.old.features name.now }) }
-        ensures err { OnErr result (self.new ≡ self.old) }
+        ensures unchanged { OnErr result (self.new ≡ self.old) }
         ensures cause { IfErr result (λ kind. kind ≡ OutOfMemory) }
     {
         self.features.names.insert(alloc, name)?;
@@ -259,7 +264,7 @@ impl Resolve {
             × (self.new
             ≡ record self.old
             { source_map = with_sources self.old.source_map source_map })) }
-        ensures err { OnErr result (self.new ≡ self.old) }
+        ensures unchanged { OnErr result (self.new ≡ self.old) }
         ensures cause { IfErr result (λ kind.
             (kind ≡ OutOfMemory)
             ⊎ ((kind ≡ OffsetOverflow) × (2 ^ 32 ≤ self.old.source_map.end + source_map.end))) }
@@ -287,7 +292,7 @@ impl Resolve {
         ensures features { self.new.features ≡ self.old.features }
         ensures source_map { self.new.source_map ≡ self.old.source_map }
         ensures track_rule { self.new.track_rule ≡ self.old.track_rule }
-        ensures err { OnErr result (self.new ≡ self.old) }
+        ensures unchanged { OnErr result (self.new ≡ self.old) }
         ensures cause { IfErr result (λ kind.
             (kind ≡ OutOfMemory)
             ⊎ IsAdditionCause (addition self.old.features self.old.graph «package» span_offset)
@@ -318,7 +323,7 @@ impl Resolve {
     ) -> ResolveResult<PackageId>
         requires shaped { IsGroupShaped group }
         ensures ok { IfOk result (λ id. PushesGroups self.old group [] id self.new) }
-        ensures err { IfErr result (λ kind. RefusesGroups self.old group [] kind self.new) }
+        ensures cause { IfErr result (λ kind. RefusesGroups self.old group [] kind self.new) }
         ensures refuses { (kind : ResolveErrorKind)
             → IsGroupsCause self.old.features self.old.graph self.old.source_map.end (group ∷ [])
             kind → OnOk result ⊥ }
@@ -344,7 +349,7 @@ impl Resolve {
     ) -> ResolveResult<PackageId>
         requires shaped { AllByRecursion IsGroupShaped (main ∷ deps) }
         ensures ok { IfOk result (λ id. PushesGroups self.old main deps id self.new) }
-        ensures err { IfErr result (λ kind. RefusesGroups self.old main deps kind self.new) }
+        ensures cause { IfErr result (λ kind. RefusesGroups self.old main deps kind self.new) }
         ensures refuses { (kind : ResolveErrorKind)
             → IsGroupsCause self.old.features self.old.graph self.old.source_map.end (main ∷ deps)
             kind → OnOk result ⊥ }
@@ -380,7 +385,7 @@ impl Resolve {
     /// Source: `merge` of wit-parser 0.263.0.
     pub fn merge(&mut self, alloc: Global, mut other: Resolve) -> ResolveResult<Remap>
         ensures ok { IfOk result (λ remap. Merges self.old other remap self.new) }
-        ensures err { IfErr result (λ kind. RefusesMerge self.old other kind self.new) }
+        ensures cause { IfErr result (λ kind. RefusesMerge self.old other kind self.new) }
         ensures refuses { (kind : ResolveErrorKind)
             → IsMergeCause (merge_of self.old other) kind ⊎ FilesPass self.old other kind
             → OnOk result ⊥ }
@@ -415,7 +420,7 @@ impl Resolve {
             selected_world self.now.graph main_packages.now (option_copied world.entry)
             ≡ Ok id) }
         ensures within { IfOk result (λ id. id < length self.now.graph.worlds) }
-        ensures err { IfErr result (IsSelectionError
+        ensures cause { IfErr result (IsSelectionError
             (selected_world self.now.graph main_packages.now (option_copied world.entry))) }
     {
         select_world(alloc, self.graph(), main_packages, world)
@@ -429,7 +434,7 @@ impl Resolve {
         ensures text { IfOk result (λ text.
             option_map string_bytes text
             ≡ interface_id_at self.now.graph.packages self.now.graph.interfaces id) }
-        ensures err { IfErr result (λ kind. kind ≡ OutOfMemory) }
+        ensures memory { IfErr result (λ kind. kind ≡ OutOfMemory) }
     {
         self.graph.id_of(alloc, id)
     }
@@ -441,7 +446,7 @@ impl Resolve {
     pub fn id_of_name(&self, alloc: Global, package: PackageId, name: &str) -> ResolveResult<String>
         ensures text { IfOk result
             (λ text. string_bytes text ≡ id_text self.now.graph.packages «package» name.now) }
-        ensures err { IfErr result (λ kind. kind ≡ OutOfMemory) }
+        ensures memory { IfErr result (λ kind. kind ≡ OutOfMemory) }
     {
         self.graph.id_of_name(alloc, package, name)
     }
@@ -453,7 +458,7 @@ impl Resolve {
         ensures text { IfOk result (λ text.
             string_bytes text
             ≡ key_text self.now.graph.packages self.now.graph.interfaces key.now) }
-        ensures err { IfErr result (λ kind. kind ≡ OutOfMemory) }
+        ensures memory { IfErr result (λ kind. kind ≡ OutOfMemory) }
     {
         self.graph.name_world_key(alloc, key)
     }
@@ -476,7 +481,7 @@ impl Resolve {
               graph = transformed self.old.graph world
                   (importized (option_map string_bytes out));
             }) }
-        ensures err { OnErr result (self.new ≡ self.old) }
+        ensures unchanged { OnErr result (self.new ≡ self.old) }
         ensures cause { IfErr result (λ kind.
             (kind ≡ OutOfMemory)
             ⊎ IsImportizeCause self.old.graph world (option_map string_bytes out) kind) }
@@ -512,7 +517,7 @@ impl Resolve {
         ensures features { self.new.features ≡ self.old.features }
         ensures source_map { self.new.source_map ≡ self.old.source_map }
         ensures track_rule { self.new.track_rule ≡ self.old.track_rule }
-        ensures err { OnErr result (self.new ≡ self.old) }
+        ensures unchanged { OnErr result (self.new ≡ self.old) }
         ensures cause { IfErr result (λ kind.
             (kind ≡ OutOfMemory)
             ⊎ RefusesExportize F.Fn filter self.old.graph world (option_map string_bytes out)
@@ -548,7 +553,7 @@ impl Resolve {
               graph = transformed self.old.graph world
                   (exportized answers.now (option_map string_bytes out));
             }) }
-        ensures err { OnErr result (self.new ≡ self.old) }
+        ensures unchanged { OnErr result (self.new ≡ self.old) }
         ensures cause { IfErr result (λ kind.
             (kind ≡ OutOfMemory)
             ⊎ IsExportizeCause self.old.graph world answers.now (option_map string_bytes out)
@@ -581,7 +586,7 @@ impl Resolve {
         ensures ok { OnOk result (self.new
             ≡ record self.old
             { graph = semver_merged self.old.track_rule self.old.graph world }) }
-        ensures err { OnErr result (self.new ≡ self.old) }
+        ensures unchanged { OnErr result (self.new ≡ self.old) }
         ensures cause { IfErr result (λ kind.
             (kind ≡ OutOfMemory)
             ⊎ IsSemverMergeCause self.old.track_rule self.old.graph world kind) }

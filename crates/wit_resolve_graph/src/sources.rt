@@ -77,7 +77,7 @@ impl Resolve {
     pub fn render_location(&self, alloc: Global, span: Span) -> ResolveResult<String>
         ensures text { IfOk result
             (λ text. string_bytes text ≡ location_of self.now.source_map.files span) }
-        ensures err { IfErr result (λ e. e ≡ OutOfMemory) }
+        ensures memory { IfErr result (λ e. e ≡ OutOfMemory) }
     {
         Ok(self.source_map().render_location(alloc, span)?)
     }
@@ -89,7 +89,7 @@ impl Resolve {
     pub fn render_error(&self, alloc: Global, fault: &SourceFault) -> ResolveResult<String>
         ensures text { IfOk result
             (λ text. string_bytes text ≡ fault_rendered self.now.source_map.files fault.now) }
-        ensures err { IfErr result (λ e. e ≡ OutOfMemory) }
+        ensures memory { IfErr result (λ e. e ≡ OutOfMemory) }
     {
         match fault {
             SourceFault::Parse { span, message } => {

@@ -65,7 +65,7 @@ fn is_listed(
     key: &WorldKey,
 ) -> ResolveResult<bool>
     ensures ok { IfOk result (λ listed. listed ≡ is_listed_key graph.now keys.now key.now) }
-    ensures err { IfErr result (λ kind. kind ≡ OutOfMemory) }
+    ensures memory { IfErr result (λ kind. kind ≡ OutOfMemory) }
 {
     match keys {
         Some(keys) => {
@@ -84,7 +84,7 @@ fn key_answers(
     keys: &Option<Items<Text>>,
 ) -> ResolveResult<Items<bool>>
     ensures ok { IfOk result (λ answers. answers ≡ listed_answers graph.now keys.now imports.now) }
-    ensures err { IfErr result (λ kind. kind ≡ OutOfMemory) }
+    ensures memory { IfErr result (λ kind. kind ≡ OutOfMemory) }
 {
     let mut answers = Items::new(alloc);
     for (key, _) in imports.iter() {
@@ -102,7 +102,7 @@ fn world_answers(
 ) -> ResolveResult<Items<bool>>
     requires { world < length resolve.now.graph.worlds }
     ensures ok { IfOk result (λ answers. answers ≡ answers_at resolve.now keys.now world) }
-    ensures err { IfErr result (λ kind. kind ≡ OutOfMemory) }
+    ensures memory { IfErr result (λ kind. kind ≡ OutOfMemory) }
 {
     let graph = resolve.graph();
     let current = graph.worlds.at(world.index());
@@ -123,7 +123,7 @@ fn exportize_listed(
           graph = transformed resolve.old.graph world
               (exportized (answers_at resolve.old keys world) out);
         }) }
-    ensures err { OnErr result (resolve.new ≡ resolve.old) }
+    ensures unchanged { OnErr result (resolve.new ≡ resolve.old) }
     ensures cause { IfErr result (λ kind.
         (kind ≡ OutOfMemory)
         ⊎ IsExportizeCause resolve.old.graph world (answers_at resolve.old keys world) out

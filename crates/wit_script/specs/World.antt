@@ -44,7 +44,8 @@ world_id_text_at g w = option_map_or (world_id_text g) (slice_get g.worlds w) []
 abbrev pub world_text : Graph → World → List ℕ
 world_text g world =
     codes "world " ++ (world_id_text g world ++ (codes "\n" ++
-    (flat_map (entry_line g (codes "import")) world.imports ++ flat_map (entry_line g (codes "export")) world.exports)))
+    (flat_map (entry_line g (codes "import")) world.imports
+    ++ flat_map (entry_line g (codes "export")) world.exports)))
 
 -- the lines of world w: its id text, its imports, its exports
 abbrev pub world_text_at : Graph → ℕ → List ℕ

@@ -232,7 +232,7 @@ fn selected(
     ensures ok { IfOk result (λ out.
         (world : ℕ) × IsChoice resolve.now.graph id text.now (Ok world)
         × (string_bytes out ≡ selected_text resolve.now.graph world)) }
-    ensures err { IfErr result (λ kind. IsChoice resolve.now.graph id text.now (Err kind)) }
+    ensures cause { IfErr result (λ kind. IsChoice resolve.now.graph id text.now (Err kind)) }
 {
     let text = match text {
         Some(text) => Some(text.as_str()),

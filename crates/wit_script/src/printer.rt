@@ -14,7 +14,7 @@ use wit_resolve_graph::{Graph, Resolve, ResolveResult};
 /// (28).
 pub fn print_world(alloc: Global, resolve: &Resolve, id: WorldId) -> ResolveResult<String>
     ensures text { IfOk result (λ text. string_bytes text ≡ world_text_at resolve.now.graph id) }
-    ensures err { IfErr result (λ e. e ≡ OutOfMemory) }
+    ensures memory { IfErr result (λ e. e ≡ OutOfMemory) }
 {
     let graph = resolve.graph();
     let Some(world) = graph.worlds.get(id.index()) else {
@@ -31,7 +31,7 @@ pub fn print_world(alloc: Global, resolve: &Resolve, id: WorldId) -> ResolveResu
 /// memory (28).
 pub fn world_id_text(alloc: Global, graph: &Graph, id: WorldId) -> ResolveResult<String>
     ensures text { IfOk result (λ text. string_bytes text ≡ world_id_text_at graph.now id) }
-    ensures err { IfErr result (λ e. e ≡ OutOfMemory) }
+    ensures memory { IfErr result (λ e. e ≡ OutOfMemory) }
 {
     let Some(world) = graph.worlds.get(id.index()) else {
         return Ok(String::new(alloc));
@@ -50,7 +50,7 @@ fn print_entries(
     entries: &Table<WorldKey, WorldItem>,
     text: &mut String,
 ) -> ResolveResult<()>
-    ensures err { IfErr result (λ e. e ≡ OutOfMemory) }
+    ensures memory { IfErr result (λ e. e ≡ OutOfMemory) }
     ensures text { OnOk result (string_bytes text.new
         ≡ string_bytes text.old ++ flat_map (entry_line graph.now word.now) entries.now) }
 {
@@ -69,7 +69,7 @@ fn print_entry(
     item: &WorldItem,
 ) -> ResolveResult<String>
     ensures text { IfOk result (λ text. string_bytes text ≡ entry_text graph.now key.now item.now) }
-    ensures err { IfErr result (λ e. e ≡ OutOfMemory) }
+    ensures memory { IfErr result (λ e. e ≡ OutOfMemory) }
 {
     match key {
         WorldKey::Interface(_) => graph.name_world_key(alloc, key),
@@ -86,7 +86,7 @@ fn print_labelled(
 ) -> ResolveResult<String>
     ensures text { IfOk result
         (λ text. string_bytes text ≡ labelled_text graph.now label.now item.now) }
-    ensures err { IfErr result (λ e. e ≡ OutOfMemory) }
+    ensures memory { IfErr result (λ e. e ≡ OutOfMemory) }
 {
     match item {
         WorldItem::Interface { id, .. } => match graph.id_of(alloc, *id)? {

@@ -25,9 +25,11 @@ pub fn execute<R: Read, W: Write>(
     writer: &mut Watched<W>,
 ) -> Result<bool, ScriptFault>
     ensures ok { IfOk result (λ understood. IfSome (R.remaining reader.old.inner) (λ input.
-        (text : List ℕ) × Prints input understood text × Appends (W.contents writer.old.inner) (W.contents writer.new.inner) text)) }
+        (text : List ℕ) × Prints input understood text × Appends (W.contents writer.old.inner)
+        (W.contents writer.new.inner) text)) }
     ensures cut { IsErrOf result ScriptFault.Write → IfSome (R.remaining reader.old.inner) (λ input.
-        (understood : Bool) × (text : List ℕ) × Prints input understood text × AppendsBeginning (W.contents writer.old.inner) (W.contents writer.new.inner) text) }
+        (understood : Bool) × (text : List ℕ) × Prints input understood text
+        × AppendsBeginning (W.contents writer.old.inner) (W.contents writer.new.inner) text) }
     ensures untouched { IfErr result
         (λ fault. (fault ≡ ScriptFault.Write) ⊎ (writer.new ≡ writer.old)) }
     ensures end { OnOk result (IfSome (R.remaining reader.new.inner) (λ rest. rest ≡ [])) }

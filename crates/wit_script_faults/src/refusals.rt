@@ -392,7 +392,8 @@ fn chosen(
     text: &Option<Text>,
 ) -> ResolveResult<WorldId>
     ensures ok { IfOk result (λ world. IsChoice tracked.now.resolve.graph id text.now (Ok world)) }
-    ensures err { IfErr result (λ kind. IsChoice tracked.now.resolve.graph id text.now (Err kind)) }
+    ensures cause { IfErr result
+        (λ kind. IsChoice tracked.now.resolve.graph id text.now (Err kind)) }
 {
     let text = match text {
         Some(text) => Some(text.as_str()),

@@ -44,8 +44,10 @@ answer_of (b ∷ bs) = option_map (λ ty. Some (type_text_of ty)) (after_prefix 
 -- the function of this name from what stands between its brackets and after them
 abbrev pub signature_with : List ℕ → List ℕ → List ℕ → Option Signature
 signature_with name between after =
-    option_and_then (λ (own : List ℕ). option_and_then (λ (params : List TypedName). option_map (λ (answer : Option TypeText).
-    record { name = own; params = params; answer = answer }) (answer_of after)) (params_of between)) (part_of name)
+    option_and_then (λ (own : List ℕ).
+    option_and_then (λ (params : List TypedName). option_map (λ (answer : Option TypeText).
+    record { name = own; params = params; answer = answer }) (answer_of after)) (params_of between))
+    (part_of name)
 
 -- `NAME(P:TYPE,..)` or `NAME(P:TYPE,..)->TYPE`; the name ends at the first `(`, the parameters at the first `)` after it
 abbrev pub signature_of : List ℕ → Option Signature
@@ -130,10 +132,14 @@ package_line_by word arguments =
     else if bytes_eq word (codes "resource") then option_map line.Resource (named_line_of arguments)
     else if bytes_eq word (codes "use") then use_line_of arguments
     else if bytes_eq word (codes "func") then option_map line.Function (signed_line_of arguments)
-    else if bytes_eq word (codes "import") then option_map (λ entry. line.Import entry.0 entry.1) (entry_tokens arguments)
-    else if bytes_eq word (codes "export") then option_map (λ entry. line.Export entry.0 entry.1) (entry_tokens arguments)
-    else if bytes_eq word (codes "import-func") then option_map line.ImportFunction (signed_line_of arguments)
-    else if bytes_eq word (codes "export-func") then option_map line.ExportFunction (signed_line_of arguments)
+    else if bytes_eq word (codes "import") then option_map (λ entry. line.Import entry.0 entry.1)
+    (entry_tokens arguments)
+    else if bytes_eq word (codes "export") then option_map (λ entry. line.Export entry.0 entry.1)
+    (entry_tokens arguments)
+    else if bytes_eq word (codes "import-func") then option_map line.ImportFunction
+    (signed_line_of arguments)
+    else if bytes_eq word (codes "export-func") then option_map line.ExportFunction
+    (signed_line_of arguments)
     else if bytes_eq word (codes "include") then include_line_of arguments
     else None
 

@@ -15,8 +15,10 @@ or_form form None other = other
 -- the outermost form of a text, and what stands inside it
 abbrev pub form_of : List ℕ → Option (Wrap × List ℕ)
 form_of text =
-    or_form wrap.List (inside (codes "list<") text) (or_form wrap.Option (inside (codes "option<") text)
-    (or_form wrap.Future (inside (codes "future<") text) (or_form wrap.Stream (inside (codes "stream<") text) None)))
+    or_form wrap.List (inside (codes "list<") text)
+    (or_form wrap.Option (inside (codes "option<") text)
+    (or_form wrap.Future (inside (codes "future<") text)
+    (or_form wrap.Stream (inside (codes "stream<") text) None)))
 
 -- a handle of this name, where there is one, or else another
 abbrev pub or_written : (List ℕ → Written) → Option (List ℕ) → Written → Written

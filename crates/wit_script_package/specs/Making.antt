@@ -136,7 +136,9 @@ function_with name does params answer here =
 -- the parameters and the result of a function, which is what its name says
 abbrev pub function_by : Draft → Signature → LineContext → FunctionKind → Option (Function × Draft)
 function_by p said here does =
-    option_and_then (λ (params : List Param × Draft). option_map (λ (answer : Option Type_ × Draft). (function_with said.name does params.0 answer.0 here, answer.1))
+    option_and_then (λ (params : List Param × Draft). option_map
+    (λ (answer : Option Type_ × Draft).
+    (function_with said.name does params.0 answer.0 here, answer.1))
     (answer_made params.1 said.answer here)) (each_made (param_made here) said.params p)
 
 abbrev pub function_made : Draft → Signature → LineContext → Option (Function × Draft)

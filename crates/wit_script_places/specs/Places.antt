@@ -16,7 +16,8 @@ abbrev pub place_at : List (List ℕ × List ℕ) → List ℕ → ℕ → Optio
 place_at [] file_starts position = None
 place_at (file ∷ files) [] position = None
 place_at (file ∷ files) (start ∷ file_starts) position =
-    if nat_le position (length file.1) then Some (file.0, start, count_by is_line_feed (take position file.1))
+    if nat_le position (length file.1)
+    then Some (file.0, start, count_by is_line_feed (take position file.1))
     else place_at files file_starts (position - (length file.1 + 1))
 
 -- the line of the script that so many lines come before, of those from a place on that go into files, and the first of these

@@ -34,7 +34,9 @@ command_text script index = option_map_or (command_text_of index) (slice_get scr
 -- in the file, and the column at which it begins to say something
 abbrev pub place_text_of : ℕ × List ℕ × ℕ → List ℕ → List ℕ
 place_text_of place line =
-    codes "     --> line " ++ (decimal (place.0 + 1) ++ (codes " (" ++ (location_text place.1 (place.0 - place.2 + 1) (content_start_of line + 1)
+    codes "     --> line "
+    ++ (decimal (place.0 + 1)
+    ++ (codes " (" ++ (location_text place.1 (place.0 - place.2 + 1) (content_start_of line + 1)
     ++ (codes ")\n" ++ noted_text (place.0 + 1) line))))
 
 abbrev pub place_text : ScriptLines → ℕ × List ℕ × ℕ → List ℕ

@@ -51,7 +51,8 @@ pub record Versioned : Type 0 where
 abbrev pub versioned_of : List Package → Interface → Option Versioned
 versioned_of packages interface =
     option_and_then (λ name. option_and_then (λ p. option_and_then (λ (home : Package).
-    option_map (λ version. record { name = name; home = home.name; version = version }) home.name.version) (slice_get packages p)) interface.package) interface.name
+    option_map (λ version. record { name = name; home = home.name; version = version })
+    home.name.version) (slice_get packages p)) interface.package) interface.name
 
 -- the name, package and version of interface i
 abbrev pub versioned : Graph → ℕ → Option Versioned
@@ -162,7 +163,8 @@ newest_type u t =
 abbrev pub types_with_new_targets : SemverMerge → List TypeDef
 types_with_new_targets u =
     map (λ (e : ℕ × TypeDef). option_map_or (λ t. record e.1 { kind = kind.Type_ (type.Id t) })
-    (if list_any (nat_eq e.0) (types_of_new_entries u) then newest_type u e.0 else None) e.1) (enumerate_from 0 u.graph.types)
+    (if list_any (nat_eq e.0) (types_of_new_entries u) then newest_type u e.0 else None) e.1)
+    (enumerate_from 0 u.graph.types)
 
 -- ---- the graph
 

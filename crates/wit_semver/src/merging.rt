@@ -175,7 +175,7 @@ pub fn merge_by_track(
     requires world { world < length graph.old.worlds }
     ensures ok { OnOk result (graph.new ≡ semver_merged rule graph.old world) }
     ensures valid { OnOk result (IsValid graph.new) }
-    ensures err { OnErr result (graph.new ≡ graph.old) }
+    ensures unchanged { OnErr result (graph.new ≡ graph.old) }
     ensures cause { IfErr result
         (λ e. (e ≡ OutOfMemory) ⊎ IsSemverMergeCause rule graph.old world e) }
     ensures refuses { (e : ResolveErrorKind) → IsSemverMergeCause rule graph.old world e

@@ -21,7 +21,7 @@ pub(crate) fn type_missing(
         e
         ≡ Semantic None (semver_merge_text graph.now old new (missing_text name.now))
         cause.UpgradeMismatch) }
-    ensures err { IfErr result (λ e. e ≡ OutOfMemory) }
+    ensures memory { IfErr result (λ e. e ≡ OutOfMemory) }
 {
     let reason = format!(in alloc; "type `{name}` is missing")?;
     upgrade_mismatch(alloc, graph, old, new, &reason)
@@ -39,7 +39,7 @@ pub(crate) fn functions_disagree(
         e
         ≡ Semantic None (semver_merge_text graph.now old new (disagreement_text mismatch.now))
         cause.UpgradeMismatch) }
-    ensures err { IfErr result (λ e. e ≡ OutOfMemory) }
+    ensures memory { IfErr result (λ e. e ≡ OutOfMemory) }
 {
     let reason = format!(in alloc; "failed to merge interfaces: {mismatch}")?;
     upgrade_mismatch(alloc, graph, old, new, &reason)
@@ -57,7 +57,7 @@ fn upgrade_mismatch(
         e
         ≡ Semantic None (semver_merge_text graph.now old new reason.now)
         cause.UpgradeMismatch) }
-    ensures err { IfErr result (λ e. e ≡ OutOfMemory) }
+    ensures memory { IfErr result (λ e. e ≡ OutOfMemory) }
 {
     let old = graph.name_world_key(alloc, &WorldKey::Interface(old))?;
     let new = graph.name_world_key(alloc, &WorldKey::Interface(new))?;

@@ -16,6 +16,7 @@ use wit_graph_data::Graph;
 pub(crate) struct SemverMergePlan<'a> {
     pub(crate) graph: &'a Graph,
     pub(crate) world: &'a World,
+    /// Contracts alone read it: it says by what `replaced` was found.
     pub(crate) rule: TrackRule,
     pub(crate) replaced: Items<Option<InterfaceId>>,
 }

@@ -30,7 +30,9 @@ column text position = count_by is_char_start (line_before text position) + 1
 
 -- the position is in the text or at its end, and no character goes over it
 abbrev pub is_char_boundary_at : List ℕ → ℕ → Bool
-is_char_boundary_at text position = if nat_le (length text) position then position == length text else is_char_start (slice_index text position)
+is_char_boundary_at text position =
+    if nat_le (length text) position then position == length text
+    else is_char_start (slice_index text position)
 
 -- what stands between two positions
 abbrev pub text_between : List ℕ → ℕ → ℕ → List ℕ
@@ -38,7 +40,9 @@ text_between text start end = take (end - start) (drop start text)
 
 -- what stands between two positions is of whole characters of one line
 abbrev pub is_in_line : List ℕ → ℕ → ℕ → Bool
-is_in_line text start end = is_char_boundary_at text start && (is_char_boundary_at text end && not (list_any is_line_feed (text_between text start end)))
+is_in_line text start end =
+    is_char_boundary_at text start
+    && (is_char_boundary_at text end && not (list_any is_line_feed (text_between text start end)))
 
 -- how many bytes stand between two positions, none where these aren't whole characters of one line
 abbrev pub len_in_line : List ℕ → ℕ → ℕ → ℕ

@@ -8,7 +8,8 @@ use Rattle.wit_sources.specs.declared.source_map.SourceFile.{SourceFile}
 
 -- a position belongs to the file that has it, the end of its text included
 abbrev pub has_position : ℕ → SourceFile → Bool
-has_position position file = nat_le file.start position && nat_le position (file.start + length file.contents)
+has_position position file =
+    nat_le file.start position && nat_le position (file.start + length file.contents)
 
 -- the file in which a span begins, None where the span is unknown or in no file
 abbrev pub file_at : List SourceFile → Option (ℕ × ℕ) → Option SourceFile
@@ -20,15 +21,20 @@ offset_in file position = position - file.start
 
 -- `path:line:column`
 abbrev pub location_text : List ℕ → ℕ → ℕ → List ℕ
-location_text path line column = path ++ (codes ":" ++ (decimal line ++ (codes ":" ++ decimal column)))
+location_text path line column =
+    path ++ (codes ":" ++ (decimal line ++ (codes ":" ++ decimal column)))
 
 -- where a position of a file stands
 abbrev pub location_in : SourceFile → ℕ → List ℕ
-location_in file position = location_text file.path (line_number file.contents (offset_in file position)) (column file.contents (offset_in file position))
+location_in file position =
+    location_text file.path (line_number file.contents (offset_in file position))
+    (column file.contents (offset_in file position))
 
 -- where a span begins
 abbrev pub location_of : List SourceFile → Option (ℕ × ℕ) → List ℕ
-location_of files span = option_map_or (λ (file : SourceFile). location_in file (start_of span)) (file_at files span) (codes "<unknown>")
+location_of files span =
+    option_map_or (λ (file : SourceFile). location_in file (start_of span)) (file_at files span)
+    (codes "<unknown>")
 
 -- the place at which a span of a file begins, and below it its line with a mark under the span; of a line over 500 bytes its
 -- beginning
@@ -37,7 +43,8 @@ shown_in file span =
     let start = offset_in file (start_of span) in
     let before = length (line_before file.contents start) in
     codes "     --> " ++ (location_in file (start_of span) ++ (codes "\n"
-    ++ marked_line (line_number file.contents start) (line_text file.contents start) before (before + len_in_line file.contents start (offset_in file (end_of span)))))
+    ++ marked_line (line_number file.contents start) (line_text file.contents start) before
+    (before + len_in_line file.contents start (offset_in file (end_of span)))))
 
 -- the same, None where the span is unknown or in no file
 abbrev pub shown_span : List SourceFile → Option (ℕ × ℕ) → Option (List ℕ)
@@ -52,4 +59,5 @@ highlight_text_in file span text =
 
 -- a text with the line in which a span begins, None where the span is unknown or in no file
 abbrev pub highlight_text : List SourceFile → Option (ℕ × ℕ) → List ℕ → Option (List ℕ)
-highlight_text files span text = option_map (λ (file : SourceFile). highlight_text_in file span text) (file_at files span)
+highlight_text files span text =
+    option_map (λ (file : SourceFile). highlight_text_in file span text) (file_at files span)

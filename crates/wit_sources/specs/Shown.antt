@@ -6,7 +6,8 @@ use Rattle.wit_sources.specs.Lines.{text_between}
 -- the last position up to this one, where it isn't the first of all, at which a character begins
 unfoldable pub start_up_to : ℕ → List ℕ → ℕ
 start_up_to zero text = zero
-start_up_to (suc k) text = if is_char_start (slice_index text (suc k)) then suc k else start_up_to k text
+start_up_to (suc k) text =
+    if is_char_start (slice_index text (suc k)) then suc k else start_up_to k text
 
 -- how many bytes of a line are shown: all, or of more than 500 those of the characters that 500 bytes hold
 abbrev pub shown_len : List ℕ → ℕ
@@ -29,7 +30,8 @@ mark_text spaces dashes = replicate spaces 32 ++ (codes "^" ++ replicate dashes 
 abbrev pub mark_under : List ℕ → ℕ → ℕ → List ℕ
 mark_under line start end =
     let from = min start (shown_len line) in
-    mark_text (count_by is_char_start (take from line)) (count_by is_char_start (text_between line from (min end (shown_len line))) - 1)
+    mark_text (count_by is_char_start (take from line))
+    (count_by is_char_start (text_between line from (min end (shown_len line))) - 1)
 
 -- a number in four places, the last of which is its last digit
 abbrev pub in_four : ℕ → List ℕ
@@ -37,4 +39,7 @@ in_four n = replicate (4 - length (decimal n)) 32 ++ decimal n
 
 -- a line with its number, and a mark under what stands between two positions; of a line over 500 bytes its beginning
 abbrev pub marked_line : ℕ → List ℕ → ℕ → ℕ → List ℕ
-marked_line number line start end = codes "      |\n " ++ (in_four number ++ (codes " | " ++ (shown_text line ++ (codes "\n      | " ++ mark_under line start end))))
+marked_line number line start end =
+    codes "      |\n "
+    ++ (in_four number
+    ++ (codes " | " ++ (shown_text line ++ (codes "\n      | " ++ mark_under line start end))))

@@ -42,7 +42,8 @@ files_of files = map (λ file. (file.path, file.contents)) files
 -- the files stand one after another between two positions, so that no two of them have a position in common
 abbrev pub AreLaidOut : ℕ → List SourceFile → ℕ → Type 0
 AreLaidOut from [] end = from ≤ end
-AreLaidOut from (file ∷ files) end = (from ≤ file.start) × AreLaidOut (end_after file.start file.contents) files end
+AreLaidOut from (file ∷ files) end =
+    (from ≤ file.start) × AreLaidOut (end_after file.start file.contents) files end
 
 -- what a fault says
 abbrev pub map_fault_text : MapFault → List ℕ

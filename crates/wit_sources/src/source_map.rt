@@ -112,8 +112,9 @@ impl SourceMap {
     /// Source: `push_str` of `SourceMap` of wit-parser 0.263.0.
     pub fn push_str(&mut self, alloc: Global, path: &str, contents: String) -> Result<(), MapFault>
         ensures ok { OnOk result (self.new ≡ with_file self.old path.now (string_bytes contents)) }
-        ensures err { OnErr result (self.new ≡ self.old) }
-        ensures overflow { (result ≡ Err MapFault.OffsetOverflow) ↔ (2 ^ 32 ≤ end_after self.old.end (string_bytes contents)) }
+        ensures unchanged { OnErr result (self.new ≡ self.old) }
+        ensures overflow { (result ≡ Err MapFault.OffsetOverflow)
+            ↔ (2 ^ 32 ≤ end_after self.old.end (string_bytes contents)) }
     {
         let start = self.end;
         let Some(end) = position_after(start, &contents) else {
@@ -138,9 +139,11 @@ impl SourceMap {
     ///
     /// Source: `append` of `SourceMap` of wit-parser 0.263.0.
     pub fn append(&mut self, _alloc: Global, other: SourceMap) -> Result<u32, MapFault>
-        ensures ok { IfOk result (λ offset. (offset ≡ self.old.end) × (self.new ≡ with_sources self.old other)) }
-        ensures err { OnErr result (self.new ≡ self.old) }
-        ensures overflow { (result ≡ Err MapFault.OffsetOverflow) ↔ (2 ^ 32 ≤ self.old.end + other.end) }
+        ensures ok { IfOk result
+            (λ offset. (offset ≡ self.old.end) × (self.new ≡ with_sources self.old other)) }
+        ensures unchanged { OnErr result (self.new ≡ self.old) }
+        ensures overflow { (result ≡ Err MapFault.OffsetOverflow)
+            ↔ (2 ^ 32 ≤ self.old.end + other.end) }
     {
         let offset = self.end;
         let Some(end) = offset.checked_add(other.end) else {
@@ -207,7 +210,8 @@ impl SourceMap {
 
 /// The position after a file that begins at a position, where there is one.
 fn position_after(start: u32, contents: &str) -> Option<u32>
-    ensures { SomeIff result (end_after start contents.now < 2 ^ 32) (end_after start contents.now) }
+    ensures { SomeIff result (end_after start contents.now < 2 ^ 32)
+        (end_after start contents.now) }
 {
     let len = u32::try_from(contents.len()).ok()?;
     start.checked_add(len)?.checked_add(1)

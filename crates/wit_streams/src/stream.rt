@@ -11,7 +11,8 @@ use std::io::{Read, Write};
 /// All bytes of a reader up to its end. The faults are a failed call of the reader, and want of memory before the reader
 /// has told its end.
 pub fn read_all<R: Read>(alloc: Global, reader: &mut Watched<R>) -> Result<Vec<u8>, StreamFault>
-    ensures ok { IfOk result (λ v. IfSome (R.remaining reader.old.inner) (λ input. v.items ≡ input)) }
+    ensures ok { IfOk result
+        (λ v. IfSome (R.remaining reader.old.inner) (λ input. v.items ≡ input)) }
     ensures end { OnOk result (IfSome (R.remaining reader.new.inner) (λ rest. rest ≡ [])) }
     ensures read { IsErrOf result StreamFault.Read → reader.new.failed ≡ true }
     ensures write { IsErrOf result StreamFault.Write → ⊥ }
@@ -33,9 +34,11 @@ pub fn read_all<R: Read>(alloc: Global, reader: &mut Watched<R>) -> Result<Vec<u
 /// Writes all bytes of a text, and has the writer pass them on. The only fault is a failed call of the
 /// writer; a beginning of the text may be written then.
 pub fn write_all<W: Write>(writer: &mut Watched<W>, text: &str) -> Result<(), StreamFault>
-    ensures ok { OnOk result (Appends (W.contents writer.old.inner) (W.contents writer.new.inner) text.now) }
-    ensures err { IfErr result (λ e. (e ≡ StreamFault.Write) × (writer.new.failed ≡ true)) }
-    ensures cut { OnErr result (AppendsBeginning (W.contents writer.old.inner) (W.contents writer.new.inner) text.now) }
+    ensures ok { OnOk result
+        (Appends (W.contents writer.old.inner) (W.contents writer.new.inner) text.now) }
+    ensures cause { IfErr result (λ e. (e ≡ StreamFault.Write) × (writer.new.failed ≡ true)) }
+    ensures cut { OnErr result
+        (AppendsBeginning (W.contents writer.old.inner) (W.contents writer.new.inner) text.now) }
 {
     let bytes = text.as_bytes();
     let mut at = 0;

@@ -58,7 +58,8 @@ impl<R: Read> Read for Watched<R> {
 
     fn read(&mut self, buf: &mut [u8]) -> io::Result<usize>
         ensures bound { ReadsAtMost result buf.new }
-        ensures bytes { ReadConsumes (R.remaining self.old.inner) (R.remaining self.new.inner) result buf.new }
+        ensures bytes { ReadConsumes (R.remaining self.old.inner)
+            (R.remaining self.new.inner) result buf.new }
         ensures failed { self.new.failed ≡ (self.old.failed || is_err result) }
         ensures ended { self.new.ended ≡ (self.old.ended || read_ends result (length buf.old)) }
     {
@@ -82,8 +83,10 @@ impl<W: Write> Write for Watched<W> {
 
     fn write(&mut self, buf: &[u8]) -> io::Result<usize>
         ensures bound { WritesAtMost result buf.now }
-        ensures bytes { WriteAppends (W.contents self.old.inner) (W.contents self.new.inner) result buf.now }
-        ensures failed { self.new.failed ≡ (self.old.failed || write_fails result (length buf.now)) }
+        ensures bytes { WriteAppends (W.contents self.old.inner) (W.contents self.new.inner) result
+            buf.now }
+        ensures failed { self.new.failed
+            ≡ (self.old.failed || write_fails result (length buf.now)) }
         ensures ended { self.new.ended ≡ self.old.ended }
     {
         let result = self.inner.write(buf);

@@ -138,7 +138,8 @@ export_refusal exports = first_refusal (map (λ (e : Entry). type_refusal e.0 e.
 -- ---- the reasons, by their numbers
 
 -- why exports of a world can't become its imports
-pub data ImportizeCause (g : Graph) (w : ℕ) (world : World) (lists : WorldLists) (error : ResolveErrorKind) : Type 0 where
+pub data ImportizeCause (g : Graph) (w : ℕ) (world : World) (lists : WorldLists)
+    (error : ResolveErrorKind) : Type 0 where
   -- 19: an export has the label of a type import
   label_clash : (label : List ℕ)
       → Contains (keys_of world.exports) (key.Name label)
@@ -148,10 +149,13 @@ pub data ImportizeCause (g : Graph) (w : ℕ) (world : World) (lists : WorldList
       (codes "world export `" ++ (label ++ codes "` conflicts with import of same name"))
       LabelClash → ImportizeCause g w world lists error
   -- 20: the new name is another world's of the package
-  importized_name_taken : (home : Package) → HasNameTaken g w world lists.name home → error ≡ Semantic None (name_taken_text lists.name home.name) NameTaken → ImportizeCause g w world lists error
+  importized_name_taken : (home : Package) → HasNameTaken g w world lists.name home → error
+      ≡ Semantic None (name_taken_text lists.name home.name) NameTaken →
+      ImportizeCause g w world lists error
 
 -- why imports of a world can't become its exports
-pub data ExportizeCause (g : Graph) (w : ℕ) (world : World) (lists : WorldLists) (error : ResolveErrorKind) : Type 0 where
+pub data ExportizeCause (g : Graph) (w : ℕ) (world : World) (lists : WorldLists)
+    (error : ResolveErrorKind) : Type 0 where
   -- 4: the new exports are in conflict, where there is a transformed world
   export_conflict : (name : List ℕ)
       → ((home : Package) → HasNameTaken g w world lists.name home → ⊥)
@@ -208,13 +212,16 @@ module _ {F : Type 0} (calls : Shared F (Bor WorldKey × (Bor WorldItem × Unit 
           → slice_get answers i ≡ Some answer → MayAnswer filter e answer
 
   -- the filter gave answers, by which a transformation is refused with this error
-  pub record RefusesExportize (filter : Option F) (old : Graph) (w : ℕ) (out : Option (List ℕ)) (error : ResolveErrorKind) : Type 0 where
+  pub record RefusesExportize (filter : Option F) (old : Graph) (w : ℕ) (out : Option (List ℕ))
+      (error : ResolveErrorKind) : Type 0 where
     pub answers : List Bool
     pub given : AreAnswers filter (imports_at old w) answers
     pub cause : IsExportizeCause old w answers out error
 
-  -- the filter gave answers, by which no cause holds against the transformation, and the graph is transformed by them
-  pub record Exportizes (filter : Option F) (old : Graph) (w : ℕ) (out : Option (List ℕ)) (new : Graph) : Type 0 where
+  -- the filter gave answers, by which no cause holds against the transformation, and the graph is
+  -- transformed by them
+  pub record Exportizes (filter : Option F) (old : Graph) (w : ℕ) (out : Option (List ℕ))
+      (new : Graph) : Type 0 where
     pub answers : List Bool
     pub given : AreAnswers filter (imports_at old w) answers
     pub accepted : NoCause (IsExportizeCause old w answers out)

@@ -35,7 +35,7 @@ pub(crate) fn check_interfaces(alloc: Global, graph: &Graph) -> ResolveResult<()
 fn interface_cycle(alloc: Global, graph: &Graph, interface: usize) -> ResolveResult<ResolveError>
     requires { IsSome (interface_id_at graph.now.packages graph.now.interfaces interface) }
     ensures error { IfOk result (IsInterfaceCycleError graph.now interface) }
-    ensures err { IfErr result (λ e. e ≡ OutOfMemory) }
+    ensures memory { IfErr result (λ e. e ≡ OutOfMemory) }
 {
     match graph.id_of(alloc, InterfaceId::from_index(interface))? {
         Some(id) => {

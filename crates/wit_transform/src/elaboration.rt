@@ -23,7 +23,7 @@ use wit_graph_data::{Graph, ResolveResult};
 pub fn check_and_elaborate(alloc: Global, graph: &mut Graph) -> ResolveResult<()>
     requires { CanBeElaborated graph.old }
     ensures ok { OnOk result (graph.new ≡ all_elaborated graph.old) }
-    ensures err { OnErr result (graph.new ≡ graph.old) }
+    ensures unchanged { OnErr result (graph.new ≡ graph.old) }
     ensures cause { IfErr result (λ e. (e ≡ OutOfMemory) ⊎ ElaborationCause graph.old e) }
     ensures refuses { (e : ResolveErrorKind) → ElaborationCause graph.old e → OnOk result ⊥ }
 {

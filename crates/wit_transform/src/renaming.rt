@@ -56,7 +56,7 @@ pub(crate) fn rename_last(
     requires free { ¬ (NameIsTakenIn home.old world name.now) }
     ensures ok { OnOk result
         (home.new ≡ record home.old { worlds = put_last home.old.worlds world name.now }) }
-    ensures err { OnErr result (home.new ≡ home.old) }
+    ensures unchanged { OnErr result (home.new ≡ home.old) }
 {
     home.worlds.keys_differ();
     if name == old_name {

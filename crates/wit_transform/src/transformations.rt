@@ -117,7 +117,7 @@ fn put(alloc: Global, graph: &mut Graph, world: WorldId, new: World) -> Result<(
     requires tables { HasTables graph.old.packages graph.old.interfaces graph.old.worlds }
     requires free { NameIsFreeAt graph.old world new.name }
     ensures ok { OnOk result (graph.new ≡ with_world graph.old world new) }
-    ensures err { OnErr result (graph.new ≡ graph.old) }
+    ensures unchanged { OnErr result (graph.new ≡ graph.old) }
 {
     let current = graph.worlds.at(world.index());
     let home = graph.packages.at_mut(home_of(&new).index());
@@ -148,7 +148,7 @@ fn transform(
         (λ _. record { name = name; imports = lists.imports; exports = lists.exports })) }
     ensures no_conflict { OnOk result
         (HasTransitiveConflict (graph_uses graph.old) lists.exports → ⊥) }
-    ensures err { OnErr result (graph.new ≡ graph.old) }
+    ensures unchanged { OnErr result (graph.new ≡ graph.old) }
     ensures cause { IfErr result
         (λ e. (e ≡ OutOfMemory) ⊎ ExportsAreInConflict graph.old world lists.exports e) }
     ensures same { elaborator.new ≡ elaborator.old }
@@ -185,7 +185,7 @@ pub fn importize(
     ensures ok { OnOk result
         (graph.new ≡ transformed graph.old world (importized (option_map string_bytes out))) }
     ensures valid { IsValid graph.new }
-    ensures err { OnErr result (graph.new ≡ graph.old) }
+    ensures unchanged { OnErr result (graph.new ≡ graph.old) }
     ensures cause { IfErr result (λ e.
         (e ≡ OutOfMemory) ⊎ IsImportizeCause graph.old world (option_map string_bytes out) e) }
     ensures refuses { (e : ResolveErrorKind)
@@ -212,7 +212,7 @@ pub fn importize_with(
     ensures ok { OnOk result
         (graph.new ≡ transformed graph.old world (importized (option_map string_bytes out))) }
     ensures valid { IsValid graph.new }
-    ensures err { OnErr result (graph.new ≡ graph.old) }
+    ensures unchanged { OnErr result (graph.new ≡ graph.old) }
     ensures cause { IfErr result (λ e.
         (e ≡ OutOfMemory) ⊎ IsImportizeCause graph.old world (option_map string_bytes out) e) }
     ensures refuses { (e : ResolveErrorKind)
@@ -288,7 +288,7 @@ pub fn exportize_answered_with(
     ensures ok { OnOk result (graph.new
         ≡ transformed graph.old world (exportized answers.now (option_map string_bytes out))) }
     ensures valid { IsValid graph.new }
-    ensures err { OnErr result (graph.new ≡ graph.old) }
+    ensures unchanged { OnErr result (graph.new ≡ graph.old) }
     ensures cause { IfErr result (λ e.
         (e ≡ OutOfMemory)
         ⊎ IsExportizeCause graph.old world answers.now (option_map string_bytes out) e) }
@@ -327,7 +327,7 @@ pub fn exportize<F: Fn(&WorldKey, &WorldItem) -> bool + Drop>(
     ensures ok { OnOk result
         (Exportizes F.Fn filter graph.old world (option_map string_bytes out) graph.new) }
     ensures valid { IsValid graph.new }
-    ensures err { OnErr result (graph.new ≡ graph.old) }
+    ensures unchanged { OnErr result (graph.new ≡ graph.old) }
     ensures cause { IfErr result (λ e.
         (e ≡ OutOfMemory)
         ⊎ RefusesExportize F.Fn filter graph.old world (option_map string_bytes out) e) }
@@ -360,7 +360,7 @@ pub fn exportize_with<F: Fn(&WorldKey, &WorldItem) -> bool + Drop>(
     ensures ok { OnOk result
         (Exportizes F.Fn filter graph.old world (option_map string_bytes out) graph.new) }
     ensures valid { IsValid graph.new }
-    ensures err { OnErr result (graph.new ≡ graph.old) }
+    ensures unchanged { OnErr result (graph.new ≡ graph.old) }
     ensures cause { IfErr result (λ e.
         (e ≡ OutOfMemory)
         ⊎ RefusesExportize F.Fn filter graph.old world (option_map string_bytes out) e) }

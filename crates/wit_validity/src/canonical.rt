@@ -25,7 +25,7 @@ pub(crate) fn are_canonical(alloc: Global, graph: &Graph) -> ResolveResult<bool>
         ↔ Each
         (λ (world : World). Elaborated graph.now.types (graph_uses graph.now) world world)
         graph.now.worlds) }
-    ensures err { IfErr result (λ e. e ≡ OutOfMemory) }
+    ensures memory { IfErr result (λ e. e ≡ OutOfMemory) }
 {
     let mut elaborator = Elaborator::new(
         alloc,
@@ -54,7 +54,7 @@ fn is_canonical(
     ensures holds { IfOk result (λ canonical.
         IsTrue canonical
         ↔ Elaborated graph.now.types (graph_uses graph.now) world.now world.now) }
-    ensures err { IfErr result (λ e. e ≡ OutOfMemory) }
+    ensures memory { IfErr result (λ e. e ≡ OutOfMemory) }
     ensures same { elaborator.new ≡ elaborator.old }
 {
     match elaborator.lists_for(alloc, graph, world) {
@@ -74,7 +74,7 @@ fn are_of(lists: &Lists, world: &World) -> bool
 /// That a world has no elaboration, unless there was no memory to tell.
 fn without_elaboration(refusal: ResolveError) -> ResolveResult<bool>
     ensures holds { IfOk result (λ canonical. (canonical ≡ false) × (refusal ≡ OutOfMemory → ⊥)) }
-    ensures err { IfErr result (λ e. e ≡ OutOfMemory) }
+    ensures memory { IfErr result (λ e. e ≡ OutOfMemory) }
 {
     if matches!(refusal.kind(), ResolveErrorKind::OutOfMemory) {
         return Err(refusal);

@@ -26,7 +26,7 @@ use wit_shape::unknown::is_unknown;
 /// Source: `assert_valid` of wit-parser 0.263.0.
 pub fn is_valid(alloc: Global, graph: &Graph) -> ResolveResult<bool>
     ensures holds { IfOk result (λ valid. IsTrue valid ↔ IsValid graph.now) }
-    ensures err { IfErr result (λ e. e ≡ OutOfMemory) }
+    ensures memory { IfErr result (λ e. e ≡ OutOfMemory) }
 {
     if !is_named(alloc, graph)? {
         return Ok(false);

@@ -25,8 +25,12 @@ module _ {K V : Type 0} where
 module _ (K V : RattleType) (key : HashMembers K.Denot) where
   -- the pairs have the last value written through r at an index
   abbrev pub LendsPairsValue : MutBor (Pairs K.Denot V.Denot) → ℕ → MutBor V.Denot → Fml
-  LendsPairsValue es i r = Lends (pairs.the_row K V (record { eq = key.eq }) (record { hash_input = key.hash_input })) V es r (with_value es.now i)
+  LendsPairsValue es i r =
+      Lends (pairs.the_row K V (record { eq = key.eq }) (record { hash_input = key.hash_input })) V
+      es r (with_value es.now i)
 
   -- so has the table
   abbrev pub LendsValue : MutBor (List (K.Denot × V.Denot)) → ℕ → MutBor V.Denot → Fml
-  LendsValue es i r = Lends (table.the_row K V (record { eq = key.eq }) (record { hash_input = key.hash_input })) V es r (set_value_at es.now i)
+  LendsValue es i r =
+      Lends (table.the_row K V (record { eq = key.eq }) (record { hash_input = key.hash_input })) V
+      es r (set_value_at es.now i)

@@ -5,5 +5,6 @@ use Rattle.indexmap.specs.IndexMap.{set_value_at}
 use Rattle.wit_values.specs.contracts.names.Names.{the_row}
 
 -- the table has the last value written through r at an index
-abbrev pub LendsNamedValue : (V : RattleType) → MutBor (List (List ℕ × V.Denot)) → ℕ → MutBor V.Denot → Fml
+abbrev pub LendsNamedValue : (V : RattleType) → MutBor (List (List ℕ × V.Denot)) → ℕ
+    → MutBor V.Denot → Fml
 LendsNamedValue V es i r = Lends (the_row V) V es r (set_value_at es.now i)

@@ -16,4 +16,6 @@ deref_named p = (p.0.now, p.1.now)
 
 -- the pairs, of which the one under a key comes last
 abbrev pub moved_last : {V : Type 0} → List ℕ → List (List ℕ × V) → List (List ℕ × V)
-moved_last key es = remove_entry (bytes_eq key) es ++ map (λ v. (key, v)) (option_to_list (lookup (bytes_eq key) es))
+moved_last key es =
+    remove_entry (bytes_eq key) es
+    ++ map (λ v. (key, v)) (option_to_list (lookup (bytes_eq key) es))

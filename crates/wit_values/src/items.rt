@@ -83,7 +83,7 @@ impl<T> Items<T> {
     where
         T: Drop,
         ensures ok { OnOk result (self.new ≡ self.old ++ item ∷ []) }
-        ensures err { OnErr result (self.new ≡ self.old) }
+        ensures unchanged { OnErr result (self.new ≡ self.old) }
     {
         self.inner.push(item)?;
         Ok(())
@@ -105,7 +105,7 @@ impl<T> Items<T> {
     where
         T: Drop,
         ensures ok { OnOk result (self.new ≡ self.old ++ other) }
-        ensures err { OnErr result (self.new ≡ self.old) }
+        ensures unchanged { OnErr result (self.new ≡ self.old) }
     {
         if self.inner.is_empty() {
             *self = other;

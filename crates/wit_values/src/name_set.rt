@@ -71,8 +71,10 @@ impl NameSet {
 
     /// Adds a text at the end where it isn't there yet. Where there is no memory the set is as before.
     pub fn insert(&mut self, alloc: Global, text: &str) -> Result<(), AllocError>
-        ensures ok { OnOk result (self.new ≡ (if list_any (bytes_eq text.now) self.old then self.old else self.old ++ text.now ∷ [])) }
-        ensures err { OnErr result (self.new ≡ self.old) }
+        ensures ok { OnOk result (self.new
+            ≡ (if list_any (bytes_eq text.now) self.old then self.old
+            else self.old ++ text.now ∷ [])) }
+        ensures unchanged { OnErr result (self.new ≡ self.old) }
     {
         let owned = String::from_str(alloc, text)?;
         self.inner.insert(owned)?;

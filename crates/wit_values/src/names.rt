@@ -107,7 +107,8 @@ impl<V> Names<V> {
         ensures index { result ≡ position (bytes_eq key.now) (keys_of self.now) }
         ensures found { is_some result ≡ is_some (lookup (bytes_eq key.now) self.now) }
         ensures within { IfSome result (λ i. i < length self.now) }
-        ensures value { IfSome result (λ i. slice_get (values_of self.now) i ≡ lookup (bytes_eq key.now) self.now) }
+        ensures value { IfSome result
+            (λ i. slice_get (values_of self.now) i ≡ lookup (bytes_eq key.now) self.now) }
     {
         self.inner.index_of(key)
     }
@@ -184,7 +185,7 @@ impl<V> Names<V> {
         V: Drop,
         requires { lookup (bytes_eq (string_bytes key)) self.old ≡ None }
         ensures ok { OnOk result (self.new ≡ self.old ++ (string_bytes key, value) ∷ []) }
-        ensures err { OnErr result (self.new ≡ self.old) }
+        ensures unchanged { OnErr result (self.new ≡ self.old) }
     {
         self.inner.push(key, value)?;
         Ok(())
@@ -215,7 +216,8 @@ impl<V> Names<V> {
     where
         V: Drop,
         requires { F.IsAlwaysCallable keep }
-        ensures { (test : V → Bool) → Tells F.Fn keep test → self.new ≡ filter (λ e. test e.1) self.old }
+        ensures { (test : V → Bool) → Tells F.Fn keep test
+            → self.new ≡ filter (λ e. test e.1) self.old }
     {
         self.inner.retain(keep);
     }

@@ -57,8 +57,9 @@ pub(crate) fn add<K: Eq + Drop, V: Drop>(
 ) -> Result<(), AllocError>
     requires { lookup (K.eq key) pairs.old.items ≡ None }
     ensures ok { OnOk result (pairs.new.items ≡ pairs.old.items ++ (key, value) ∷ []) }
-    ensures distinct { OnOk result (IsDistinct K.eq (keys_of pairs.old.items) → IsDistinct K.eq (keys_of pairs.new.items)) }
-    ensures err { OnErr result (pairs.new.items ≡ pairs.old.items) }
+    ensures distinct { OnOk result
+        (IsDistinct K.eq (keys_of pairs.old.items) → IsDistinct K.eq (keys_of pairs.new.items)) }
+    ensures unchanged { OnErr result (pairs.new.items ≡ pairs.old.items) }
 {
     let len = pairs.len();
     if len == pairs.capacity() {
@@ -76,7 +77,7 @@ pub(crate) fn add_indexed<K: Eq + Hash + Drop, V: Drop>(
 ) -> Result<(), AllocError>
     requires { lookup (K.eq key) map.old.entries ≡ None }
     ensures ok { OnOk result (map.new.entries ≡ map.old.entries ++ (key, value) ∷ []) }
-    ensures err { OnErr result (map.new.entries ≡ map.old.entries) }
+    ensures unchanged { OnErr result (map.new.entries ≡ map.old.entries) }
 {
     map.insert(key, value)?;
     Ok(())
@@ -85,7 +86,8 @@ pub(crate) fn add_indexed<K: Eq + Hash + Drop, V: Drop>(
 /// Leaves the first `len` of some pairs.
 pub(crate) fn cut<K: Eq + Drop, V: Drop>(pairs: &mut Vec<(K, V)>, len: usize)
     ensures first { pairs.new.items ≡ take len pairs.old.items }
-    ensures distinct { IsDistinct K.eq (keys_of pairs.old.items) → IsDistinct K.eq (keys_of pairs.new.items) }
+    ensures distinct { IsDistinct K.eq (keys_of pairs.old.items)
+        → IsDistinct K.eq (keys_of pairs.new.items) }
 {
     pairs.truncate(len);
 }
@@ -95,7 +97,8 @@ pub(crate) fn take_out<K: Eq, V>(pairs: &mut Vec<(K, V)>, index: usize) -> (K, V
     requires { index < length pairs.old.items }
     ensures pair { slice_get pairs.old.items index ≡ Some result }
     ensures others { pairs.new.items ≡ remove pairs.old.items index }
-    ensures distinct { IsDistinct K.eq (keys_of pairs.old.items) → IsDistinct K.eq (keys_of pairs.new.items) }
+    ensures distinct { IsDistinct K.eq (keys_of pairs.old.items)
+        → IsDistinct K.eq (keys_of pairs.new.items) }
 {
     pairs.remove(index)
 }
@@ -116,7 +119,8 @@ pub(crate) fn take_out_indexed<K: Eq + Hash, V>(map: &mut IndexMap<K, V>, index:
 pub(crate) fn move_last<K: Eq, V>(pairs: &mut Vec<(K, V)>, index: usize)
     requires { index < length pairs.old.items }
     ensures moved { pairs.new.items ≡ last_from pairs.old.items index }
-    ensures distinct { IsDistinct K.eq (keys_of pairs.old.items) → IsDistinct K.eq (keys_of pairs.new.items) }
+    ensures distinct { IsDistinct K.eq (keys_of pairs.old.items)
+        → IsDistinct K.eq (keys_of pairs.new.items) }
 {
     pairs[index..].rotate_left(1);
 }
@@ -159,8 +163,10 @@ pub(crate) fn fill<K: Eq + Hash + Drop, V: Drop>(map: &mut IndexMap<K, V>, pairs
 /// Leaves the pairs whose value passes a test, in order.
 pub(crate) fn retain<K: Eq + Drop, V: Drop, F: Fn(&V) -> bool>(pairs: &mut Vec<(K, V)>, keep: F)
     requires { F.IsAlwaysCallable keep }
-    ensures kept { (test : V → Bool) → Tells F.Fn keep test → pairs.new.items ≡ filter (λ e. test e.1) pairs.old.items }
-    ensures distinct { IsDistinct K.eq (keys_of pairs.old.items) → IsDistinct K.eq (keys_of pairs.new.items) }
+    ensures kept { (test : V → Bool) → Tells F.Fn keep test
+        → pairs.new.items ≡ filter (λ e. test e.1) pairs.old.items }
+    ensures distinct { IsDistinct K.eq (keys_of pairs.old.items)
+        → IsDistinct K.eq (keys_of pairs.new.items) }
 {
     pairs.retain(
         |pair: &(K, V)| -> bool
@@ -176,7 +182,8 @@ pub(crate) fn retain_indexed<K: Eq + Hash + Drop, V: Drop, F: Fn(&V) -> bool>(
     keep: F,
 )
     requires { F.IsAlwaysCallable keep }
-    ensures { (test : V → Bool) → Tells F.Fn keep test → map.new.entries ≡ filter (λ e. test e.1) map.old.entries }
+    ensures { (test : V → Bool) → Tells F.Fn keep test
+        → map.new.entries ≡ filter (λ e. test e.1) map.old.entries }
 {
     map.retain(
         |_key: &K, value: &mut V| -> bool

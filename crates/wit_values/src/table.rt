@@ -126,7 +126,8 @@ impl<K: Eq + Hash, V> Table<K, V> {
         ensures index { result ≡ position (K.eq key.now) (keys_of self.now) }
         ensures found { is_some result ≡ is_some (lookup (K.eq key.now) self.now) }
         ensures within { IfSome result (λ i. i < length self.now) }
-        ensures value { IfSome result (λ i. slice_get (values_of self.now) i ≡ lookup (K.eq key.now) self.now) }
+        ensures value { IfSome result
+            (λ i. slice_get (values_of self.now) i ≡ lookup (K.eq key.now) self.now) }
         ensures distinct { IsDistinct K.eq (keys_of self.now) }
     {
         self.index_of(key)
@@ -278,7 +279,7 @@ impl<K: Eq + Hash, V> Table<K, V> {
         V: Drop,
         requires { lookup (K.eq key) self.old ≡ None }
         ensures ok { OnOk result (self.new ≡ self.old ++ (key, value) ∷ []) }
-        ensures err { OnErr result (self.new ≡ self.old) }
+        ensures unchanged { OnErr result (self.new ≡ self.old) }
     {
         let len = self.len();
         if len == FEW {
@@ -319,7 +320,8 @@ impl<K: Eq + Hash, V> Table<K, V> {
         K: Drop,
         V: Drop,
         requires { F.IsAlwaysCallable keep }
-        ensures { (test : V → Bool) → Tells F.Fn keep test → self.new ≡ filter (λ e. test e.1) self.old }
+        ensures { (test : V → Bool) → Tells F.Fn keep test
+            → self.new ≡ filter (λ e. test e.1) self.old }
     {
         match &mut self.pairs {
             Pairs::Few(pairs) => retain(pairs, keep),

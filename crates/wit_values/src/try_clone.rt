@@ -81,7 +81,9 @@ pub fn try_clone_six<A: TryClone, B: TryClone, C: TryClone, D: TryClone, E: TryC
     e: &E,
     f: &F,
 ) -> Result<(A, B, C, D, E, F), AllocError>
-    ensures { IfOk result (λ r. (r.0 ≡ a.now) × (r.1 ≡ b.now) × (r.2 ≡ c.now) × (r.3 ≡ d.now) × (r.4 ≡ e.now) × (r.5 ≡ f.now)) }
+    ensures { IfOk result (λ r.
+        (r.0 ≡ a.now) × (r.1 ≡ b.now) × (r.2 ≡ c.now) × (r.3 ≡ d.now) × (r.4 ≡ e.now)
+        × (r.5 ≡ f.now)) }
 {
     let (a, b, c) = try_clone_three(a, b, c)?;
     let (d, e, f) = try_clone_three(d, e, f)?;

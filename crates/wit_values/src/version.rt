@@ -42,7 +42,7 @@ impl Version {
     /// Source: `Version::parse` of the `semver` crate.
     pub fn parse(alloc: Global, text: &str) -> Result<Version, semver::Error>
         ensures ok { IfOk result (λ v. version_parts text.now ≡ Ok v) }
-        ensures err { IfErr result (λ e. (e ≡ memory_error) ⊎ (version_parts text.now ≡ Err e)) }
+        ensures cause { IfErr result (λ e. (e ≡ memory_error) ⊎ (version_parts text.now ≡ Err e)) }
         ensures refused { IsRefused (version_parts text.now) result }
     {
         let version = semver::Version::parse(alloc, text)?;
@@ -166,7 +166,8 @@ impl Ord for Version {
 }
 
 impl Hash for Version {
-    ghost hash_input = { λ v. fed.u64 v.0 ++ fed.u64 v.1 ++ fed.u64 v.2 ++ fed.str v.3 ++ fed.str v.4 };
+    ghost hash_input = { λ v. fed.u64 v.0 ++ fed.u64 v.1 ++ fed.u64 v.2 ++ fed.str v.3
+        ++ fed.str v.4 };
 
     ghost respects_eq = { Prim.search (hashing, rules) };
 

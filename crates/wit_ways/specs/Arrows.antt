@@ -51,7 +51,9 @@ abbrev pub use_arrow : Features → ℕ → List TypeDef → List (Option (List 
 use_arrow features offset types names i id =
     option_and_then
     (λ (def : TypeDef).
-    if is_active features def.stability then option_and_then (λ used. arrow_between (called names i) (placed offset def.span) (called names used)) (type_interface_dep types id) else None)
+    if is_active features def.stability
+    then option_and_then (λ used. arrow_between (called names i) (placed offset def.span)
+    (called names used)) (type_interface_dep types id) else None)
     (slice_get types id)
 
 -- what interface i uses
@@ -173,5 +175,9 @@ entries_in features offset g names on =
 -- which interface uses which, and what worlds have on a side
 abbrev pub graph_arrows : ℕ → Graph → WorldSide → List Arrow
 graph_arrows offset g on =
-    dependencies_in g ++ (world_dependencies offset g (home_texts g) side.Imports ++ (world_dependencies offset g (home_texts g) side.Exports
-    ++ (uses_in all_on offset g.types g.interfaces (home_texts g) ++ (uses_in all_on offset g.types g.interfaces (interface_texts g) ++ entries_in all_on offset g (interface_texts g) on))))
+    dependencies_in g
+    ++ (world_dependencies offset g (home_texts g) side.Imports
+    ++ (world_dependencies offset g (home_texts g) side.Exports
+    ++ (uses_in all_on offset g.types g.interfaces (home_texts g)
+    ++ (uses_in all_on offset g.types g.interfaces (interface_texts g) ++ entries_in all_on offset g
+    (interface_texts g) on))))

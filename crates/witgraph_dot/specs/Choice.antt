@@ -80,7 +80,8 @@ with_hidden choice text =
 -- with what a line chooses
 abbrev pub with_line : Choice → List ℕ → Choice
 with_line choice line =
-    if bytes_eq line (codes "# only-added") then record { shown = choice.shown; hidden = choice.hidden; only_added = true }
+    if bytes_eq line (codes "# only-added")
+    then record { shown = choice.shown; hidden = choice.hidden; only_added = true }
     else option_map_or (with_shown choice) (after_prefix (codes "# show ") line)
     (option_map_or (with_hidden choice) (after_prefix (codes "# hide ") line) choice)
 

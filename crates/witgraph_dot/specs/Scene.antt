@@ -120,7 +120,8 @@ unlisted_arrows v w =
 -- list and to what elaboration added
 abbrev pub import_arrows : View → ℕ → List Arrow
 import_arrows v w =
-    included_arrows (included_worlds v w) ++ (frame_arrows (import_frames v w) kind.Listed (brought_imports v w)
+    included_arrows (included_worlds v w)
+    ++ (frame_arrows (import_frames v w) kind.Listed (brought_imports v w)
     ++ (listed_arrows v w ++ unlisted_arrows v w))
 
 -- the arrows to what elaboration added alone

@@ -30,7 +30,8 @@ exports_of world g = option_map_or (λ w. own_exports (slice_get g.worlds w)) wo
 
 -- after `importize`: what the world exported before
 abbrev pub importized_imports : Option ℕ → List ℕ → List Import → List Import
-importized_imports world exports imports = option_map_or (λ w. replaced w exports imports) world imports
+importized_imports world exports imports =
+    option_map_or (λ w. replaced w exports imports) world imports
 
 -- after `exportize`: what was listed and isn't exported
 abbrev pub exportized_imports : Option ℕ → Graph → List Import → List Import

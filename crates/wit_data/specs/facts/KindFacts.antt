@@ -25,7 +25,8 @@ use Rattle.wit_data.specs.declared.types.Type_.TheVariants as type
 
 -- a part with its ids mapped by its role and its span moved
 abbrev pub map_part : (PartRole → ℕ → ℕ) → (OptionalSpan → OptionalSpan) → KindPart → KindPart
-map_part go move p = record p { ty = option_map (map_type (go p.role)) p.ty; span = option_map move p.span }
+map_part go move p =
+    record p { ty = option_map (map_type (go p.role)) p.ty; span = option_map move p.span }
 
 -- ---- lists of parts
 

@@ -22,7 +22,8 @@ IsNameOnlyInterface name interface = (interface.name ≡ Some name) × (interfac
 
 -- a foreign world has the name under which it is named, no items and no includes
 abbrev pub IsNameOnlyWorld : List ℕ → World → Type 0
-IsNameOnlyWorld name world = (world.name ≡ name) × (world.imports ≡ []) × (world.exports ≡ []) × (world.includes ≡ [])
+IsNameOnlyWorld name world =
+    (world.name ≡ name) × (world.imports ≡ []) × (world.exports ≡ []) × (world.includes ≡ [])
 
 -- each include names an earlier world
 abbrev pub IncludesEarlier : ℕ → World → Type 0
@@ -30,12 +31,17 @@ IncludesEarlier w world = Each (λ (i : WorldInclude). i.id < w) world.includes
 
 -- the types of kind `Unknown` are the first `unknown` ones
 abbrev pub AreUnknownFirst : ℕ → List TypeDef → Type 0
-AreUnknownFirst unknown types = (unknown ≤ length types) × EachAt (λ i (def : TypeDef). (def.kind ≡ kind.Unknown) ↔ (i < unknown)) types
+AreUnknownFirst unknown types =
+    (unknown ≤ length types)
+    × EachAt (λ i (def : TypeDef). (def.kind ≡ kind.Unknown) ↔ (i < unknown)) types
 
 -- each of the first `unknown` types is one of a foreign interface
 abbrev pub AreForeignTypes : ℕ → ℕ → List TypeDef → Type 0
-AreForeignTypes unknown foreign types = EachAt (λ i def. i < unknown → IsForeignType foreign def) types
+AreForeignTypes unknown foreign types =
+    EachAt (λ i def. i < unknown → IsForeignType foreign def) types
 
 -- each of the first `foreign` interfaces lists types among the first `unknown` ones alone
 abbrev pub ListUnknownAlone : ℕ → ℕ → List Interface → Type 0
-ListUnknownAlone unknown foreign interfaces = EachAt (λ i (interface : Interface). i < foreign → Each (λ (e : List ℕ × ℕ). e.1 < unknown) interface.types) interfaces
+ListUnknownAlone unknown foreign interfaces =
+    EachAt (λ i (interface : Interface).
+    i < foreign → Each (λ (e : List ℕ × ℕ). e.1 < unknown) interface.types) interfaces

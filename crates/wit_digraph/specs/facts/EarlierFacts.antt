@@ -9,7 +9,9 @@ use Rattle.wit_digraph.specs.Relation.{direct, IsPath, IsAcyclic}
 
 -- each use in a row is of an earlier node
 abbrev pub UsesEarlier : List (List ℕ) → Type 0
-UsesEarlier rows = (i : ℕ) (row : List ℕ) → slice_get rows i ≡ Some row → (k j : ℕ) → slice_get row k ≡ Some j → j < i
+UsesEarlier rows =
+    (i : ℕ) (row : List ℕ) → slice_get rows i ≡ Some row → (k j : ℕ) → slice_get row k ≡ Some j
+    → j < i
 
 module _ (rows : List (List ℕ)) (earlier : UsesEarlier rows) where
   earlier_uses : (i : ℕ) → All (λ j. (j < i) × (j < length rows)) (direct rows i)

@@ -15,7 +15,8 @@ use Rattle.wit_digraph.specs.steps.PostOrder.{UsesFirst}
 
 -- every path from i has fewer members than this after i
 abbrev pub HasShortPaths : List (List ℕ) → ℕ → ℕ → Type 0
-HasShortPaths uses members i = (path : List ℕ) (j : ℕ) → IsPath uses i path j → length path < members
+HasShortPaths uses members i =
+    (path : List ℕ) (j : ℕ) → IsPath uses i path j → length path < members
 
 pub post_order_within-more : (uses : List (List ℕ)) (members i : ℕ) → HasShortPaths uses members i → post_order_within uses (suc members) i ≡ post_order_within uses members i
 unfolding post_order_within

@@ -12,12 +12,16 @@ PostOrdersUnfold = (uses : List (List ℕ)) (i : ℕ) → IsAcyclic uses → i <
 
 -- what the post-orders of some roots list is exactly what is reached from a root
 abbrev pub PostOrdersReach : Type 0
-PostOrdersReach = (uses : List (List ℕ)) (roots : List ℕ) (j : ℕ) → IsAcyclic uses → All (λ i. i < length uses) roots →
-    Contains (first_of_each (flat_map (post_order uses) roots)) j ↔ ((i : ℕ) × Contains roots i × Reaches uses i j)
+PostOrdersReach =
+    (uses : List (List ℕ)) (roots : List ℕ) (j : ℕ) → IsAcyclic uses
+    → All (λ i. i < length uses) roots →
+    Contains (first_of_each (flat_map (post_order uses) roots)) j
+    ↔ ((i : ℕ) × Contains roots i × Reaches uses i j)
 
 -- and each direct use of what they list stands before it
 abbrev pub PostOrdersKeepOrder : Type 0
-PostOrdersKeepOrder = (uses : List (List ℕ)) (roots : List ℕ) → IsAcyclic uses → All (λ i. i < length uses) roots →
+PostOrdersKeepOrder =
+    (uses : List (List ℕ)) (roots : List ℕ) → IsAcyclic uses → All (λ i. i < length uses) roots →
     UsesFirst uses [] (first_of_each (flat_map (post_order uses) roots))
 
 -- the first of each member has the same members, each once

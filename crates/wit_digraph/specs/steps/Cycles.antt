@@ -10,7 +10,8 @@ mark_of marks i = slice_index_or marks i Unseen
 
 -- what a node that is done uses is done, and none of them is on a cycle
 pub record DoneAreClear (uses : List (List ℕ)) (marks : List Mark) : Type 0 where
-  pub closed : (i j : ℕ) → mark_of marks i ≡ Done → Contains (direct uses i) j → mark_of marks j ≡ Done
+  pub closed : (i j : ℕ) → mark_of marks i ≡ Done → Contains (direct uses i) j
+      → mark_of marks j ≡ Done
   pub no_cycle : (i k : ℕ) (path : List ℕ) → mark_of marks i ≡ Done → IsPath uses i (k ∷ path) i → ⊥
 
 -- no search is running: each node is done or was not met

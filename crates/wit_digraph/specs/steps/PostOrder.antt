@@ -6,7 +6,8 @@ use Rattle.wit_digraph.specs.steps.Rows.{HasBit}
 -- each member's direct uses are among those seen, or stand before it
 abbrev pub UsesFirst : List (List ℕ) → List ℕ → List ℕ → Type 0
 UsesFirst uses seen [] = Unit {0}
-UsesFirst uses seen (i ∷ rest) = All (Contains seen) (direct uses i) × UsesFirst uses (seen ++ i ∷ []) rest
+UsesFirst uses seen (i ∷ rest) =
+    All (Contains seen) (direct uses i) × UsesFirst uses (seen ++ i ∷ []) rest
 
 -- what a listing of nodes is: how many nodes there are, and the order of those that are listed
 pub record Listed : Type 0 where

@@ -29,7 +29,8 @@ module _ (types : List TypeDef) where
   -- entries of the first classes of a list
   pub record UpTo (es : List Entry) (c : ℕ) (some : List Entry) : Type 0 where
     pub new : AllNew [] some
-    pub among : (e : Entry) → Contains some e → Contains es e × (elaboration_class (role_of types e.1) < c)
+    pub among : (e : Entry) → Contains some e
+        → Contains es e × (elaboration_class (role_of types e.1) < c)
 
   pub UpTo-more : (es some : List Entry) (c : ℕ) → AllNew [] es → UpTo es c some → UpTo es (suc c) (some ++ of_class types c es)
   UpTo-more es some c new is = record {

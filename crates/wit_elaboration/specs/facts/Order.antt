@@ -24,7 +24,8 @@ use Rattle.wit_elaboration.specs.facts.FreshEntries.{interfaces_of_keys, keyed_i
 module _ (types : List TypeDef) where
   -- an entry under an interface's key is that interface
   abbrev pub AreOwn : List Entry → Type 0
-  AreOwn es = (e : Entry) (i : ℕ) → Contains es e → e.0 ≡ Interface i → role_of types e.1 ≡ Instance i
+  AreOwn es =
+      (e : Entry) (i : ℕ) → Contains es e → e.0 ≡ Interface i → role_of types e.1 ≡ Instance i
 
   pub DependenciesFirst-append : (uses : List (List ℕ)) (xs ys : List Entry) (seen : List ℕ) → DependenciesFirst types uses seen xs → DependenciesFirst types uses (seen ++ keyed_interfaces xs) ys → DependenciesFirst types uses seen (xs ++ ys)
   DependenciesFirst-append uses [] ys seen first then = rw append-nil at then

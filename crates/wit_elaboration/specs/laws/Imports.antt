@@ -10,7 +10,8 @@ use Rattle.wit_elaboration.specs.steps.Parts.{exported_keys, exported_interfaces
 -- the exports need j from outside: an exported interface uses one that is not an exported key, and that reaches j
 abbrev pub Needed : List (List ℕ) → List Entry → ℕ → Type 0
 Needed uses exports j =
-    (x : ℕ) × (d : ℕ) × Contains (exported_interfaces exports) x × Contains (direct uses x) d × (Contains (exported_keys exports) d → ⊥) × Reaches uses d j
+    (x : ℕ) × (d : ℕ) × Contains (exported_interfaces exports) x × Contains (direct uses x) d
+    × (Contains (exported_keys exports) d → ⊥) × Reaches uses d j
 
 -- where the imports of an entry begin: an interface under its own key, the uses of one under a label, the interface of a type use
 abbrev pub roots_of : List (List ℕ) → WorldKey → Role → List ℕ
@@ -24,4 +25,7 @@ roots_of uses k ResourceFunction = []
 -- the elaborated world imports j: the exports need it, or it is reached from where an import begins
 abbrev pub IsImported : List TypeDef → List (List ℕ) → List Entry → List Entry → ℕ → Type 0
 IsImported types uses imports exports j =
-    Needed uses exports j ⊎ ((r : ℕ) × Contains (flat_map (λ (e : Entry). roots_of uses e.0 (role_of types e.1)) imports) r × Reaches uses r j)
+    Needed uses exports j
+    ⊎ ((r : ℕ)
+    × Contains (flat_map (λ (e : Entry). roots_of uses e.0 (role_of types e.1)) imports) r
+    × Reaches uses r j)

@@ -54,7 +54,8 @@ abbrev pub ReachesTarget : List (List ℕ) → (ℕ → Type 0) → ℕ → Type
 ReachesTarget uses Target i = (t : ℕ) × Reaches uses i t × Target t
 
 -- of the members of an order, those that reach a target are marked, and no other node is
-pub record IsMarkRow (uses : List (List ℕ)) (order : List ℕ) (Target : ℕ → Type 0) (marks : List ℕ) : Type 0 where
+pub record IsMarkRow (uses : List (List ℕ)) (order : List ℕ) (Target : ℕ → Type 0)
+    (marks : List ℕ) : Type 0 where
   pub sound : (i : ℕ) → HasBit marks i → ReachesTarget uses Target i
   pub complete : (i : ℕ) → Contains order i → ReachesTarget uses Target i → HasBit marks i
 
@@ -64,8 +65,10 @@ HasUse uses P i = (d : ℕ) × Contains (direct uses i) d × P d
 
 -- a row has exactly the columns of some nodes
 abbrev pub HasColumnsOf : List ℕ → List ℕ → Type 0
-HasColumnsOf nodes columns = (c : ℕ) → HasBit columns c ↔ ((j : ℕ) × Contains nodes j × (column j ≡ c))
+HasColumnsOf nodes columns =
+    (c : ℕ) → HasBit columns c ↔ ((j : ℕ) × Contains nodes j × (column j ≡ c))
 
 -- i uses one that isn't exported and whose row has one of the columns
 abbrev pub MayNeed : List (List ℕ) → List (List ℕ) → List ℕ → List ℕ → ℕ → Type 0
-MayNeed uses rows exported columns i = HasUse uses (λ d. (Contains exported d → ⊥) × HaveCommonBit (direct rows d) columns) i
+MayNeed uses rows exported columns i =
+    HasUse uses (λ d. (Contains exported d → ⊥) × HaveCommonBit (direct rows d) columns) i

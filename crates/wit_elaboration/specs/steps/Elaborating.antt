@@ -16,9 +16,10 @@ pub record IsPostOrder (uses : List (List ℕ)) (walked : Listed) : Type 0 where
   pub uses_first : UsesFirst uses [] walked.order
 
 -- and is imported under its own key
-pub record IsImporting (uses : List (List ℕ)) (walked : Listed) (imports : List Entry) : Type 0 where
-  pub post_order : IsPostOrder uses walked
-  pub imported : (i : ℕ) → Contains walked.order i → Contains (keys_of imports) (Interface i)
+pub record IsImporting (uses : List (List ℕ)) (walked : Listed) (imports : List Entry) : Type 0
+  where
+    pub post_order : IsPostOrder uses walked
+    pub imported : (i : ℕ) → Contains walked.order i → Contains (keys_of imports) (Interface i)
 
 -- some target is reached from i
 abbrev pub ReachesOneOf : List (List ℕ) → List ℕ → ℕ → Type 0
@@ -31,8 +32,10 @@ pub record AreMarked (uses : List (List ℕ)) (order targets marked : List ℕ) 
 
 -- listed are those of an order that reach an exported interface and are not exported themselves
 pub record AreOutside (order reaching exported outside : List ℕ) : Type 0 where
-  pub sound : (i : ℕ) → Contains outside i → Contains order i × Contains reaching i × (Contains exported i → ⊥)
-  pub complete : (i : ℕ) → Contains order i → Contains reaching i → (Contains exported i → ⊥) → Contains outside i
+  pub sound : (i : ℕ) → Contains outside i
+      → Contains order i × Contains reaching i × (Contains exported i → ⊥)
+  pub complete : (i : ℕ) → Contains order i → Contains reaching i → (Contains exported i → ⊥)
+      → Contains outside i
 
 -- some direct use of i is marked
 abbrev pub HasMarkedUse : List (List ℕ) → List ℕ → ℕ → Type 0
@@ -44,9 +47,11 @@ IsExportedList listed exports = (i : ℕ) → Contains listed i ↔ Contains (ex
 
 -- the first entry that is in conflict, and none where there is none
 abbrev pub IsFirstConflict : List (List ℕ) → List Entry → Option ℕ → Type 0
-IsFirstConflict uses exports None = (e : Entry) → Contains exports e → IsEntryInConflict uses exports e → ⊥
+IsFirstConflict uses exports None =
+    (e : Entry) → Contains exports e → IsEntryInConflict uses exports e → ⊥
 IsFirstConflict uses exports (Some at) =
-    (e : Entry) × (slice_get exports at ≡ Some e) × IsEntryInConflict uses exports e × ((f : Entry) → Contains (take at exports) f → IsEntryInConflict uses exports f → ⊥)
+    (e : Entry) × (slice_get exports at ≡ Some e) × IsEntryInConflict uses exports e
+    × ((f : Entry) → Contains (take at exports) f → IsEntryInConflict uses exports f → ⊥)
 
 -- each set of marks is one of so many interfaces
 pub record HaveNodes (marks : Marks) (interfaces : ℕ) : Type 0 where
@@ -69,7 +74,10 @@ abbrev pub is_listed : Listed → ℕ → Bool
 is_listed listed i = list_any (nat_eq i) listed.order
 
 -- what was walked is exported, or imported where it is no exported key
-pub record IsExporting (uses : List (List ℕ)) (exported : ℕ → Bool) (walked : Listed) (imports exports : List Entry) : Type 0 where
+pub record IsExporting (uses : List (List ℕ)) (exported : ℕ → Bool) (walked : Listed)
+    (imports exports : List Entry) : Type 0 where
   pub post_order : IsPostOrder uses walked
-  pub are_exported : (i : ℕ) → Contains walked.order i → exported i ≡ true → Contains (keys_of exports) (Interface i)
-  pub are_imported : (i : ℕ) → Contains walked.order i → exported i ≡ false → Contains (keys_of imports) (Interface i)
+  pub are_exported : (i : ℕ) → Contains walked.order i → exported i ≡ true
+      → Contains (keys_of exports) (Interface i)
+  pub are_imported : (i : ℕ) → Contains walked.order i → exported i ≡ false
+      → Contains (keys_of imports) (Interface i)

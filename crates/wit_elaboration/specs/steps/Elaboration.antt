@@ -14,7 +14,8 @@ use Rattle.wit_elaboration.specs.Elaboration.{graph_uses, elaborated_world}
 -- the error that names the export at a place
 abbrev pub IsErrorAt : Graph → World → ℕ → ResolveErrorKind → Type 0
 IsErrorAt g world at e =
-    (entry : Entry) × (slice_get world.exports at ≡ Some entry) × (e ≡ InvalidTransitiveDependency world.span (key_text g.packages g.interfaces entry.0))
+    (entry : Entry) × (slice_get world.exports at ≡ Some entry)
+    × (e ≡ InvalidTransitiveDependency world.span (key_text g.packages g.interfaces entry.0))
 
 -- a world with other lists in place of its own, where there are others
 abbrev pub with_lists : World → Option Lists → World
@@ -23,7 +24,9 @@ with_lists world (Some lists) = record world { imports = lists.imports; exports 
 
 -- of each world its lists, which make of it the elaborated one
 abbrev pub AreListsOf : Graph → List World → List (Option Lists) → Type 0
-AreListsOf g worlds lists = AllZip (λ (world : World) (new : Option Lists). with_lists world new ≡ elaborated_world g world) worlds lists
+AreListsOf g worlds lists =
+    AllZip (λ (world : World) (new : Option Lists). with_lists world new ≡ elaborated_world g world)
+    worlds lists
 
 -- some world is in conflict, and the error tells it: at its span, by the name that is refused
 pub record IsRefusedWorld (g : Graph) (error : ResolveErrorKind) : Type 0 where

@@ -24,11 +24,15 @@ function_role o = option_map_or (λ resource. ResourceFunction) o FreeFunction
 
 -- the entries of one class, in their order
 abbrev pub of_class : List TypeDef → ℕ → List Entry → List Entry
-of_class types class entries = filter (λ (e : Entry). nat_eq (elaboration_class (role_of types e.1)) class) entries
+of_class types class entries =
+    filter (λ (e : Entry). nat_eq (elaboration_class (role_of types e.1)) class) entries
 
 -- an entry, changed so, and before it those of what it needs
-abbrev pub entry_post_order : List TypeDef → List (List ℕ) → (WorldItem → InheritedData) → (WorldItem → WorldItem) → Entry → List Entry
-entry_post_order types uses carries change e = map (dependency_of (carries e.1)) (dependencies_before uses (role_of types e.1)) ++ (e.0, change e.1) ∷ []
+abbrev pub entry_post_order : List TypeDef → List (List ℕ) → (WorldItem → InheritedData)
+    → (WorldItem → WorldItem) → Entry → List Entry
+entry_post_order types uses carries change e =
+    map (dependency_of (carries e.1)) (dependencies_before uses (role_of types e.1))
+    ++ (e.0, change e.1) ∷ []
 
 -- what the interface of an entry needs
 abbrev pub interface_needs : List (List ℕ) → Entry → List ℕ
@@ -52,7 +56,8 @@ exported_interfaces exports = flat_map (λ (e : Entry). item_interface e.1) expo
 
 -- in one step or more, i reaches one that is between
 abbrev pub LeadsToConflict : List (List ℕ) → List Entry → ℕ → Type 0
-LeadsToConflict uses exports i = (j : ℕ) × (b : ℕ) × Contains (direct uses i) j × Reaches uses j b × IsBetween uses exports b
+LeadsToConflict uses exports i =
+    (j : ℕ) × (b : ℕ) × Contains (direct uses i) j × Reaches uses j b × IsBetween uses exports b
 
 -- which package of a graph depends on which
 abbrev pub graph_package_uses : Graph → List (List ℕ)

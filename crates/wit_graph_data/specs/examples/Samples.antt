@@ -43,7 +43,8 @@ interface_of name types = record (new_interface name) { types = types; «package
 
 -- a world of package 0 with these lists
 abbrev pub world_of : List ℕ → List (WorldKey × WorldItem) → List (WorldKey × WorldItem) → World
-world_of name imports exports = record (new_world name) { imports = imports; exports = exports; «package» = Some 0 }
+world_of name imports exports =
+    record (new_world name) { imports = imports; exports = exports; «package» = Some 0 }
 
 -- the entry of interface i under its own key, and under a label
 abbrev pub instance : ℕ → WorldItem
@@ -71,15 +72,20 @@ foo_bar = record { namespace = codes "foo"; name = codes "bar"; version = None }
 
 -- package foo:bar of these interfaces and worlds
 abbrev pub foo_bar_of : List (List ℕ × ℕ) → List (List ℕ × ℕ) → Package
-foo_bar_of interfaces worlds = record { name = foo_bar; docs = no_docs; interfaces = interfaces; worlds = worlds }
+foo_bar_of interfaces worlds =
+    record { name = foo_bar; docs = no_docs; interfaces = interfaces; worlds = worlds }
 
 -- interface a has a number t, and b has another name of it
 abbrev pub sample_types : List TypeDef
-sample_types = type_in 0 (codes "t") (kind.Type_ type.U32) ∷ type_in 1 (codes "t") (kind.Type_ (type.Id 0)) ∷ []
+sample_types =
+    type_in 0 (codes "t") (kind.Type_ type.U32) ∷ type_in 1 (codes "t") (kind.Type_ (type.Id 0))
+    ∷ []
 
 -- the two interfaces
 abbrev pub sample_interfaces : List Interface
-sample_interfaces = interface_of (Some (codes "a")) ((codes "t", 0) ∷ []) ∷ interface_of (Some (codes "b")) ((codes "t", 1) ∷ []) ∷ []
+sample_interfaces =
+    interface_of (Some (codes "a")) ((codes "t", 0) ∷ [])
+    ∷ interface_of (Some (codes "b")) ((codes "t", 1) ∷ []) ∷ []
 
 -- package foo:bar with these two interfaces and a world w of these imports and exports
 abbrev pub sample : List (WorldKey × WorldItem) → List (WorldKey × WorldItem) → Graph

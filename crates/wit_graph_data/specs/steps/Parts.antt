@@ -15,11 +15,13 @@ use Rattle.wit_graph_data.specs.IdText.{id_text}
 
 -- the packages that package p depends on directly, in order, with repeats
 abbrev pub package_needs : List TypeDef → List Interface → List World → ℕ → Package → List ℕ
-package_needs types interfaces worlds p home = filter_map (other_package interfaces p) (package_interfaces types interfaces worlds home)
+package_needs types interfaces worlds p home =
+    filter_map (other_package interfaces p) (package_interfaces types interfaces worlds home)
 
 -- `namespace:package/name`, and `@track` where the package has a version
 abbrev pub canonical_id_text_in : PackageName → List ℕ → List ℕ
-canonical_id_text_in home name = home.namespace ++ (58 ∷ (home.name ++ (47 ∷ (name ++ track_part home.version))))
+canonical_id_text_in home name =
+    home.namespace ++ (58 ∷ (home.name ++ (47 ∷ (name ++ track_part home.version))))
 
 -- a part that values hold is a number or a type of the list
 abbrev pub is_fixed_part : KindPart → Bool
@@ -31,12 +33,16 @@ content_types k = referred_in is_held k
 
 -- is the type at place t a future or a stream?
 abbrev pub is_future : List TypeDef → ℕ → Bool
-is_future types t = option_map_or (λ (def : TypeDef). is_future_kind def.kind) (slice_get types t) false
+is_future types t =
+    option_map_or (λ (def : TypeDef). is_future_kind def.kind) (slice_get types t) false
 
 -- `namespace:package/name`, and `@version` where the package has one
 abbrev pub id_text_in : PackageName → List ℕ → List ℕ
-id_text_in owner name = owner.namespace ++ (58 ∷ (owner.name ++ (47 ∷ (name ++ version_suffix owner.version))))
+id_text_in owner name =
+    owner.namespace ++ (58 ∷ (owner.name ++ (47 ∷ (name ++ version_suffix owner.version))))
 
 -- the id text of an interface that has a name and a package
 abbrev pub interface_id_text : List Package → Interface → Option (List ℕ)
-interface_id_text packages interface = option_and_then (λ name. option_map (λ owner. id_text packages owner name) interface.package) interface.name
+interface_id_text packages interface =
+    option_and_then (λ name. option_map (λ owner. id_text packages owner name) interface.package)
+    interface.name

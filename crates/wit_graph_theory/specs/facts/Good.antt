@@ -20,7 +20,8 @@ use Rattle.wit_graph_data.specs.declared.graph.Package.{Package}
 
 -- type i is good: a type with an owner is listed there, its alias names what it may, a type without a name
 -- is plain, and all else that it refers to is its owner's
-pub record IsGoodType (types : List TypeDef) (interfaces : List Interface) (worlds : List World) (i : ℕ) (def : TypeDef) : Type 0 where
+pub record IsGoodType (types : List TypeDef) (interfaces : List Interface) (worlds : List World)
+    (i : ℕ) (def : TypeDef) : Type 0 where
   pub listed : IsListed interfaces worlds i def.name def.owner
   pub alias : AliasesNamed types interfaces def
   pub unnamed : def.name ≡ None → IsPlain def.kind
@@ -36,19 +37,22 @@ pub record IsGoodInterface (types : List TypeDef) (f : ℕ) (interface : Interfa
   pub distinct_functions : HasDistinctKeys interface.functions
 
 -- an import of world w is good, where the world is of this package
-pub record IsGoodImport (types : List TypeDef) (interfaces : List Interface) (w : ℕ) (world : World) (e : Entry) : Type 0 where
+pub record IsGoodImport (types : List TypeDef) (interfaces : List Interface) (w : ℕ) (world : World)
+    (e : Entry) : Type 0 where
   pub is : IsImport interfaces types w e.0 e.1
   pub own : ItemUsesOwn types w e.1
   pub home : IsOfPackage interfaces world.package e.1
 
 -- so is an export
-pub record IsGoodExport (types : List TypeDef) (interfaces : List Interface) (w : ℕ) (world : World) (e : Entry) : Type 0 where
+pub record IsGoodExport (types : List TypeDef) (interfaces : List Interface) (w : ℕ) (world : World)
+    (e : Entry) : Type 0 where
   pub is : IsExport interfaces e.0 e.1
   pub own : ItemUsesOwn types w e.1
   pub home : IsOfPackage interfaces world.package e.1
 
 -- world w is good: its entries are
-pub record IsGoodWorld (types : List TypeDef) (interfaces : List Interface) (w : ℕ) (world : World) : Type 0 where
+pub record IsGoodWorld (types : List TypeDef) (interfaces : List Interface) (w : ℕ)
+    (world : World) : Type 0 where
   pub imports : Each (IsGoodImport types interfaces w world) world.imports
   pub exports : Each (IsGoodExport types interfaces w world) world.exports
   pub distinct_imports : HasDistinctKeys world.imports
@@ -56,7 +60,8 @@ pub record IsGoodWorld (types : List TypeDef) (interfaces : List Interface) (w :
   pub no_includes : world.includes ≡ []
 
 -- package p is good: its tables hold its interfaces and worlds under their names
-pub record IsGoodPackage (interfaces : List Interface) (worlds : List World) (p : ℕ) (home : Package) : Type 0 where
+pub record IsGoodPackage (interfaces : List Interface) (worlds : List World) (p : ℕ)
+    (home : Package) : Type 0 where
   pub interfaces_are : Each (λ (e : List ℕ × ℕ). IsInterfaceOf interfaces p e.0 e.1) home.interfaces
   pub worlds_are : Each (λ (e : List ℕ × ℕ). IsWorldOf worlds p e.0 e.1) home.worlds
   pub distinct_interfaces : HasDistinctKeys home.interfaces

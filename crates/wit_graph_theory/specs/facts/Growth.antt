@@ -20,7 +20,8 @@ use Rattle.wit_graph_theory.specs.steps.Sources.{Source}
 use Rattle.wit_graph_data.specs.steps.Parts.{package_needs}
 
 -- the types of a graph grow behind old ones
-pub record TypesGrow {K : Type 0} (at : K → Source) (rank : K → ℕ → ℕ) (old : List TypeDef) (g : Graph) : Type 0 where
+pub record TypesGrow {K : Type 0} (at : K → Source) (rank : K → ℕ → ℕ) (old : List TypeDef)
+    (g : Graph) : Type 0 where
   pub longer : length old ≤ length g.types
   pub kept : (i : ℕ) (def : TypeDef) → i < length old → slice_get g.types i ≡ Some def
       → slice_get old i ≡ Some def
@@ -72,7 +73,9 @@ pub record PackagesGrow (old g : Graph) : Type 0 where
       → slice_get old.packages p ≡ Some home → Contains home.worlds e
       → slice_get g.worlds e.1 ≡ Some world → slice_get old.worlds e.1 ≡ Some world
   -- and uses what it used
-  pub uses : (f : ℕ) (interface : Interface) (j : ℕ) → slice_get old.interfaces f ≡ Some interface → Contains (interface_uses g.types interface) j → Contains (interface_uses old.types interface) j
+  pub uses : (f : ℕ) (interface : Interface) (j : ℕ) → slice_get old.interfaces f ≡ Some interface →
+      Contains (interface_uses g.types interface) j →
+      Contains (interface_uses old.types interface) j
   pub imports : (w : ℕ) (world : World) (i : ℕ) → slice_get old.worlds w ≡ Some world → (e : Entry)
       → Contains world.imports e → (t : ℕ) (span : _) → e.1 ≡ item.Type_ t span
       → type_interface_dep g.types t ≡ Some i → type_interface_dep old.types t ≡ Some i

@@ -30,7 +30,8 @@ pub record ListsUses (interfaces : List Interface) (uses : List (List ℕ)) (wor
         → is_unnamed interfaces f ≡ true → Contains (direct uses f) j → ListsKey world j
 
 -- a world is elaborated from the one that was listed at its place
-pub record IsElaboratedFrom (types : List TypeDef) (interfaces : List Interface) (listed : List World) (w : ℕ) (new : World) : Type 0 where
+pub record IsElaboratedFrom (types : List TypeDef) (interfaces : List Interface)
+    (listed : List World) (w : ℕ) (new : World) : Type 0 where
   pub old : World
   pub at : slice_get listed w ≡ Some old
   pub imports : ImportsAreAllowed interfaces types w old
@@ -39,7 +40,8 @@ pub record IsElaboratedFrom (types : List TypeDef) (interfaces : List Interface)
   pub elaborated : Elaborated types (uses_of types interfaces) old new
 
 -- worlds are elaborated from those that were listed, in a graph of these types, interfaces and packages
-pub record AreElaboratedFrom (types : List TypeDef) (interfaces : List Interface) (packages : List Package) (listed done : List World) : Type 0 where
+pub record AreElaboratedFrom (types : List TypeDef) (interfaces : List Interface)
+    (packages : List Package) (listed done : List World) : Type 0 where
   pub aliases : Each (AliasesNamed types interfaces) types
   pub uses : IsAcyclic (uses_of types interfaces)
   pub tables : EachAt (IsInTable packages) interfaces

@@ -1,6 +1,6 @@
 //! Changes of a graph as they are read.
 ghost use Rattle.json.specs.Value.{value_view};
-ghost use Rattle.wit_json_commands.specs.Changes.{change_by, exportize_of, importize_of, push_of, semver_of};
+ghost use Rattle.wit_json_commands.specs.Changes.{read_change_by, read_exportize, read_importize, read_push, read_semver};
 ghost use Rattle.wit_json_reading.specs.Reading.{Reads};
 
 use json::Value;
@@ -8,9 +8,9 @@ use std::alloc::Global;
 use wit_commands::Change;
 use wit_json_reading::{Expected, ReadError, ReadJson, instead_of, only, optional, required};
 
-#[tactic(auto, unfolding(crate::specs::Changes::push_of))]
+#[tactic(auto, unfolding(crate::specs::Changes::read_push))]
 fn push(alloc: Global, value: &Value<'_>) -> Result<Change, ReadError>
-    ensures { Reads result (push_of (value_view value.now)) }
+    ensures { Reads result (read_push (value_view value.now)) }
 {
     only(alloc, value, &["main", "deps"])?;
     let main = required(alloc, value, "main")?;
@@ -18,9 +18,9 @@ fn push(alloc: Global, value: &Value<'_>) -> Result<Change, ReadError>
     Ok(Change::PushGroups { main, deps })
 }
 
-#[tactic(auto, unfolding(crate::specs::Changes::importize_of))]
+#[tactic(auto, unfolding(crate::specs::Changes::read_importize))]
 fn importize(alloc: Global, value: &Value<'_>) -> Result<Change, ReadError>
-    ensures { Reads result (importize_of (value_view value.now)) }
+    ensures { Reads result (read_importize (value_view value.now)) }
 {
     only(alloc, value, &["package", "world", "out"])?;
     let package = required(alloc, value, "package")?;
@@ -33,9 +33,9 @@ fn importize(alloc: Global, value: &Value<'_>) -> Result<Change, ReadError>
     })
 }
 
-#[tactic(auto, unfolding(crate::specs::Changes::exportize_of))]
+#[tactic(auto, unfolding(crate::specs::Changes::read_exportize))]
 fn exportize(alloc: Global, value: &Value<'_>) -> Result<Change, ReadError>
-    ensures { Reads result (exportize_of (value_view value.now)) }
+    ensures { Reads result (read_exportize (value_view value.now)) }
 {
     only(alloc, value, &["package", "world", "out", "keys"])?;
     let package = required(alloc, value, "package")?;
@@ -50,9 +50,9 @@ fn exportize(alloc: Global, value: &Value<'_>) -> Result<Change, ReadError>
     })
 }
 
-#[tactic(auto, unfolding(crate::specs::Changes::semver_of))]
+#[tactic(auto, unfolding(crate::specs::Changes::read_semver))]
 fn semver(alloc: Global, value: &Value<'_>) -> Result<Change, ReadError>
-    ensures { Reads result (semver_of (value_view value.now)) }
+    ensures { Reads result (read_semver (value_view value.now)) }
 {
     only(alloc, value, &["package", "world"])?;
     let package = required(alloc, value, "package")?;
@@ -61,9 +61,9 @@ fn semver(alloc: Global, value: &Value<'_>) -> Result<Change, ReadError>
 }
 
 /// The change of this name.
-#[tactic(auto, unfolding(crate::specs::Changes::change_by))]
+#[tactic(auto, unfolding(crate::specs::Changes::read_change_by))]
 pub fn change_by(alloc: Global, name: &str, value: &Value<'_>) -> Result<Change, ReadError>
-    ensures { Reads result (change_by name.now (value_view value.now)) }
+    ensures { Reads result (read_change_by name.now (value_view value.now)) }
 {
     match name {
         "add-feature" => Ok(Change::AddFeature(ReadJson::read_json(alloc, value)?)),

@@ -1,7 +1,7 @@
 //! What a document asks, in order.
 ghost use Rattle.std.specs.Prelude.{◌≡◌};
 ghost use Rattle.json.specs.Value.{value_view};
-ghost use Rattle.wit_json_commands.specs.Orders.{document_of, is_change, order_by, order_of, plain_request_of, request_by, request_of};
+ghost use Rattle.wit_json_commands.specs.Orders.{read_document, is_change, read_order_by, read_order, read_plain_request, read_request_by, read_request};
 ghost use Rattle.wit_json_reading.specs.Reading.{Reads};
 
 use super::changes::change_by;
@@ -56,7 +56,7 @@ fn is_change(name: &str) -> bool
 
 /// The change or the question of this name.
 fn request_by(alloc: Global, name: &str, value: &Value<'_>) -> Result<Request, ReadError>
-    ensures { Reads result (request_by name.now (value_view value.now)) }
+    ensures { Reads result (read_request_by name.now (value_view value.now)) }
 {
     if is_change(name) {
         Ok(Request::Change(change_by(alloc, name, value)?))
@@ -67,7 +67,7 @@ fn request_by(alloc: Global, name: &str, value: &Value<'_>) -> Result<Request, R
 
 /// A request without parts.
 fn plain_request(alloc: Global, word: &str) -> Result<Request, ReadError>
-    ensures { Reads result (plain_request_of word.now) }
+    ensures { Reads result (read_plain_request word.now) }
 {
     match word {
         "package-order" => Ok(Request::Ask(Question::PackageOrder)),
@@ -76,9 +76,9 @@ fn plain_request(alloc: Global, word: &str) -> Result<Request, ReadError>
 }
 
 impl ReadJson for Request {
-    ghost reading = { request_of };
+    ghost reading = { read_request };
 
-    #[tactic(auto, unfolding(crate::specs::Orders::request_of))]
+    #[tactic(auto, unfolding(crate::specs::Orders::read_request))]
     fn read_json(alloc: Global, value: &Value<'_>) -> Result<Request, ReadError> {
         if let Some(word) = value.as_str() {
             return plain_request(alloc, word);
@@ -92,7 +92,7 @@ impl ReadJson for Request {
 
 /// The order of this name.
 fn order_by(alloc: Global, name: &str, value: &Value<'_>) -> Result<Order, ReadError>
-    ensures { Reads result (order_by name.now (value_view value.now)) }
+    ensures { Reads result (read_order_by name.now (value_view value.now)) }
 {
     if name == "merge" {
         Ok(Order::Merge(ReadJson::read_json(alloc, value)?))
@@ -102,9 +102,9 @@ fn order_by(alloc: Global, name: &str, value: &Value<'_>) -> Result<Order, ReadE
 }
 
 impl ReadJson for Order {
-    ghost reading = { order_of };
+    ghost reading = { read_order };
 
-    #[tactic(auto, unfolding(crate::specs::Orders::order_of))]
+    #[tactic(auto, unfolding(crate::specs::Orders::read_order))]
     fn read_json(alloc: Global, value: &Value<'_>) -> Result<Order, ReadError> {
         if let Some(word) = value.as_str() {
             return Ok(Order::Request(plain_request(alloc, word)?));
@@ -117,9 +117,9 @@ impl ReadJson for Order {
 }
 
 impl ReadJson for Document {
-    ghost reading = { document_of };
+    ghost reading = { read_document };
 
-    #[tactic(auto, unfolding(crate::specs::Orders::document_of))]
+    #[tactic(auto, unfolding(crate::specs::Orders::read_document))]
     fn read_json(alloc: Global, value: &Value<'_>) -> Result<Document, ReadError> {
         only(alloc, value, &["resolve", "commands"])?;
         let resolve = optional(alloc, value, "resolve")?;

@@ -2,7 +2,7 @@
 ghost use Rattle.std.specs.Prelude.{◌≡◌};
 ghost use Rattle.json.specs.Value.{value_view};
 ghost use Rattle.wit_json_commands.specs.Asked.{question_word};
-ghost use Rattle.wit_json_commands.specs.Questions.{canonical_id_of, core_names_of, function_by, function_of, interface_of, mangling_in, mangling_of, place_of, question_by, select_of};
+ghost use Rattle.wit_json_commands.specs.Questions.{read_canonical_id, read_core_names, read_function_place_by, read_function_place, read_interface_question, mangling_in, read_mangling, read_place_in, read_question_by, read_select};
 ghost use Rattle.wit_json_reading.specs.Reading.{Reads};
 
 use json::Value;
@@ -91,9 +91,9 @@ impl Question {
     }
 }
 
-#[tactic(auto, unfolding(crate::specs::Questions::select_of))]
+#[tactic(auto, unfolding(crate::specs::Questions::read_select))]
 fn select(alloc: Global, value: &Value<'_>) -> Result<Question, ReadError>
-    ensures { Reads result (select_of (value_view value.now)) }
+    ensures { Reads result (read_select (value_view value.now)) }
 {
     only(alloc, value, &["packages", "world"])?;
     let packages = required(alloc, value, "packages")?;
@@ -101,9 +101,9 @@ fn select(alloc: Global, value: &Value<'_>) -> Result<Question, ReadError>
     Ok(Question::Select { packages, world })
 }
 
-#[tactic(auto, unfolding(crate::specs::Questions::interface_of))]
+#[tactic(auto, unfolding(crate::specs::Questions::read_interface_question))]
 fn interface(alloc: Global, value: &Value<'_>) -> Result<Question, ReadError>
-    ensures { Reads result (interface_of (value_view value.now)) }
+    ensures { Reads result (read_interface_question (value_view value.now)) }
 {
     only(alloc, value, &["package", "interface"])?;
     let package = required(alloc, value, "package")?;
@@ -111,9 +111,9 @@ fn interface(alloc: Global, value: &Value<'_>) -> Result<Question, ReadError>
     Ok(Question::InterfaceDependencies { package, interface })
 }
 
-#[tactic(auto, unfolding(crate::specs::Questions::canonical_id_of))]
+#[tactic(auto, unfolding(crate::specs::Questions::read_canonical_id))]
 fn canonical_id(alloc: Global, value: &Value<'_>) -> Result<Question, ReadError>
-    ensures { Reads result (canonical_id_of (value_view value.now)) }
+    ensures { Reads result (read_canonical_id (value_view value.now)) }
 {
     only(alloc, value, &["package", "name"])?;
     let package = required(alloc, value, "package")?;
@@ -122,9 +122,9 @@ fn canonical_id(alloc: Global, value: &Value<'_>) -> Result<Question, ReadError>
 }
 
 impl ReadJson for Mangling {
-    ghost reading = { mangling_of };
+    ghost reading = { read_mangling };
 
-    #[tactic(auto, unfolding(crate::specs::Questions::mangling_of))]
+    #[tactic(auto, unfolding(crate::specs::Questions::read_mangling))]
     fn read_json(alloc: Global, value: &Value<'_>) -> Result<Mangling, ReadError> {
         match value.as_str() {
             Some(word) => mangling_in(alloc, word),
@@ -146,9 +146,9 @@ fn mangling_in(alloc: Global, word: &str) -> Result<Mangling, ReadError>
     }
 }
 
-#[tactic(auto, unfolding(crate::specs::Questions::core_names_of))]
+#[tactic(auto, unfolding(crate::specs::Questions::read_core_names))]
 fn core_names(alloc: Global, value: &Value<'_>) -> Result<Question, ReadError>
-    ensures { Reads result (core_names_of (value_view value.now)) }
+    ensures { Reads result (read_core_names (value_view value.now)) }
 {
     only(alloc, value, &["package", "world", "mangling"])?;
     let package = required(alloc, value, "package")?;
@@ -161,9 +161,9 @@ fn core_names(alloc: Global, value: &Value<'_>) -> Result<Question, ReadError>
     })
 }
 
-#[tactic(auto, unfolding(crate::specs::Questions::place_of))]
+#[tactic(auto, unfolding(crate::specs::Questions::read_place_in))]
 fn place(alloc: Global, site: FunctionSite, value: &Value<'_>) -> Result<FunctionPlace, ReadError>
-    ensures { Reads result (place_of site (value_view value.now)) }
+    ensures { Reads result (read_place_in site (value_view value.now)) }
 {
     only(alloc, value, &["package", "name", "function"])?;
     let package = required(alloc, value, "package")?;
@@ -179,7 +179,7 @@ fn place(alloc: Global, site: FunctionSite, value: &Value<'_>) -> Result<Functio
 
 /// The place of a function, in what this name says.
 fn function_in(alloc: Global, name: &str, value: &Value<'_>) -> Result<FunctionPlace, ReadError>
-    ensures { Reads result (function_by name.now (value_view value.now)) }
+    ensures { Reads result (read_function_place_by name.now (value_view value.now)) }
 {
     match name {
         "interface" => place(alloc, FunctionSite::Interface, value),
@@ -189,9 +189,9 @@ fn function_in(alloc: Global, name: &str, value: &Value<'_>) -> Result<FunctionP
     }
 }
 
-#[tactic(auto, unfolding(crate::specs::Questions::function_of))]
+#[tactic(auto, unfolding(crate::specs::Questions::read_function_place))]
 fn function(alloc: Global, value: &Value<'_>) -> Result<FunctionPlace, ReadError>
-    ensures { Reads result (function_of (value_view value.now)) }
+    ensures { Reads result (read_function_place (value_view value.now)) }
 {
     match one_member(value) {
         Some((name, place)) => in_member(alloc, function_in(alloc, name, place), name),
@@ -200,9 +200,9 @@ fn function(alloc: Global, value: &Value<'_>) -> Result<FunctionPlace, ReadError
 }
 
 /// The question of this name.
-#[tactic(auto, unfolding(crate::specs::Questions::question_by))]
+#[tactic(auto, unfolding(crate::specs::Questions::read_question_by))]
 pub fn question_by(alloc: Global, name: &str, value: &Value<'_>) -> Result<Question, ReadError>
-    ensures { Reads result (question_by name.now (value_view value.now)) }
+    ensures { Reads result (read_question_by name.now (value_view value.now)) }
 {
     match name {
         "select" => select(alloc, value),

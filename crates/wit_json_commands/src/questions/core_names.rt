@@ -3,7 +3,7 @@ ghost use Rattle.std.specs.Prelude.{◌≡◌, ◌++◌, IfOk, OnOk};
 ghost use Rattle.std.specs.List.{flat_map};
 ghost use Rattle.std.specs.Option.{option_copied};
 ghost use Rattle.wit_elaboration.specs.Valid.{IsValid};
-ghost use Rattle.wit_json_commands.specs.CoreNames.{core_export, core_exports, core_import, core_imports, entry_functions, functions_at, mangling_of};
+ghost use Rattle.wit_json_commands.specs.CoreNames.{core_export, core_exports, core_import, core_imports, entry_functions, functions_at, mangling_and_abi};
 ghost use Rattle.wit_json_commands.specs.steps.Placed.{placed_function, placed_functions};
 ghost use Rattle.wit_json_commands.specs.Tells.{core_names};
 
@@ -47,7 +47,7 @@ pub fn core_names(
 
 /// The names that are asked for.
 fn mangling_of(mangling: Mangling) -> ManglingAndAbi
-    ensures { result ≡ mangling_of mangling }
+    ensures { result ≡ mangling_and_abi mangling }
 {
     match mangling {
         Mangling::Standard32 => ManglingAndAbi::Standard32,

@@ -2,7 +2,7 @@
 ghost use Rattle.std.specs.Prelude.{◌≡◌, ◌<◌, IfOk, length};
 ghost use Rattle.wit_elaboration.specs.Valid.{IsValid};
 ghost use Rattle.wit_graph_data.specs.Queries.{interface_direct_deps, package_direct_deps};
-ghost use Rattle.wit_json_commands.specs.Tells.{interface_dependencies, package_dependencies, package_order};
+ghost use Rattle.wit_json_commands.specs.Tells.{interface_dependencies, package_dependencies_answer, package_order};
 
 use super::names::interface_named;
 use crate::replies::Answer;
@@ -19,7 +19,7 @@ pub fn package_dependencies(
     package: &PackageName,
 ) -> ResolveResult<Answer>
     requires { IsValid graph.now }
-    ensures { IfOk result (λ answer. answer ≡ package_dependencies graph.now «package».now) }
+    ensures { IfOk result (λ answer. answer ≡ package_dependencies_answer graph.now «package».now) }
 {
     match graph.package_names.get(package) {
         Some(id) => Ok(Answer::Packages(packages_of(alloc, graph, *id)?)),

@@ -2,7 +2,7 @@
 ghost use Rattle.std.specs.Prelude.{◌≡◌, IfOk};
 ghost use Rattle.std.specs.Option.{option_copied};
 ghost use Rattle.wit_elaboration.specs.Valid.{IsValid};
-ghost use Rattle.wit_json_commands.specs.Tells.{entry_function, export_function, function_at, function_under, futures_and_streams, import_function, interface_function};
+ghost use Rattle.wit_json_commands.specs.Tells.{entry_function, export_function, function_at, function_under, futures_and_streams_answer, import_function, interface_function};
 
 use super::names::{interface_named, world_named};
 use crate::commands::{FunctionPlace, FunctionSite};
@@ -19,7 +19,7 @@ pub fn futures_and_streams(
     place: &FunctionPlace,
 ) -> ResolveResult<Answer>
     requires { IsValid graph.now }
-    ensures { IfOk result (λ answer. answer ≡ futures_and_streams graph.now place.now) }
+    ensures { IfOk result (λ answer. answer ≡ futures_and_streams_answer graph.now place.now) }
 {
     match function_at(graph, place) {
         Some(function) => {

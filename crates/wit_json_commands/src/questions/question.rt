@@ -1,7 +1,7 @@
 //! Questions and their answers.
 ghost use Rattle.std.specs.Prelude.{◌≡◌, IfOk};
 ghost use Rattle.wit_elaboration.specs.Valid.{IsValid};
-ghost use Rattle.wit_json_commands.specs.Tells.{AnswersQuestion, Tells, canonical_id};
+ghost use Rattle.wit_json_commands.specs.Tells.{AnswersQuestion, TellsAnswer, canonical_id};
 
 use super::core_names::core_names;
 use super::dependencies::{interface_dependencies, package_dependencies, package_order};
@@ -43,7 +43,7 @@ fn tell(
     question: &Question,
 ) -> ResolveResult<Answer>
     requires { IsValid graph.now }
-    ensures { IfOk result (λ answer. Tells graph.now files.now question.now answer) }
+    ensures { IfOk result (λ answer. TellsAnswer graph.now files.now question.now answer) }
 {
     match question {
         Question::Select { packages, world } => select(alloc, graph, files, packages, world),

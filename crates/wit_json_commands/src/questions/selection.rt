@@ -1,7 +1,7 @@
 //! Which world a text names.
 ghost use Rattle.std.specs.Prelude.{◌≡◌, IfOk};
 ghost use Rattle.std.specs.Option.{option_map};
-ghost use Rattle.wit_json_commands.specs.Tells.{TellsChoice, TellsSelect, packages_named};
+ghost use Rattle.wit_json_commands.specs.Tells.{TellsSelected, TellsSelect, packages_named};
 
 use crate::replies::{Answer, refused};
 use std::alloc::{AllocError, Global};
@@ -53,7 +53,7 @@ fn choose(
     mains: &[PackageId],
     world: &Option<Text>,
 ) -> ResolveResult<Answer>
-    ensures { IfOk result (λ answer. TellsChoice graph.now files.now mains.now world.now answer) }
+    ensures { IfOk result (λ answer. TellsSelected graph.now files.now mains.now world.now answer) }
 {
     let text = match world {
         Some(text) => Some(text.as_str()),

@@ -1,7 +1,7 @@
 //! Refusals as they are told.
 ghost use Rattle.std.specs.Prelude.{◌≡◌, IfOk, string_bytes};
 ghost use Rattle.std.specs.List.{flat_map};
-ghost use Rattle.wit_json_commands.specs.Refusals.{arrow_text, place_text, places_text, refused, way_text};
+ghost use Rattle.wit_json_commands.specs.Refusals.{arrow_text, place_lines, lines_of_places, refused, way_lines};
 
 use super::answers::{Answer, Refusal};
 use super::places::package_span;
@@ -39,7 +39,7 @@ fn places_text(
     kind: &ResolveErrorKind,
 ) -> Result<String, AllocError>
     ensures { IfOk result
-        (λ text. string_bytes text ≡ places_text graph.now files.now.files kind.now) }
+        (λ text. string_bytes text ≡ lines_of_places graph.now files.now.files kind.now) }
 {
     match kind {
         ResolveErrorKind::DuplicatePackage { name, span1, span2 } => {
@@ -58,7 +58,7 @@ fn places_text(
 
 /// Where a span begins, on lines of their own; nothing where it is unknown or in no file.
 fn place_text(alloc: Global, files: &SourceMap, span: Span) -> Result<String, AllocError>
-    ensures { IfOk result (λ text. string_bytes text ≡ place_text files.now.files span) }
+    ensures { IfOk result (λ text. string_bytes text ≡ place_lines files.now.files span) }
 {
     match files.show_span(alloc, span)? {
         Some(shown) => format!(in alloc; "\n{shown}"),
@@ -68,7 +68,7 @@ fn place_text(alloc: Global, files: &SourceMap, span: Span) -> Result<String, Al
 
 /// `way: A -> B -> .. -> C` on a line of its own and the line of each step, or nothing where there is no way.
 fn way_text(alloc: Global, files: &SourceMap, way: &[Arrow]) -> Result<String, AllocError>
-    ensures { IfOk result (λ text. string_bytes text ≡ way_text files.now.files way.now) }
+    ensures { IfOk result (λ text. string_bytes text ≡ way_lines files.now.files way.now) }
 {
     if way.is_empty() {
         return Ok(String::new(alloc));

@@ -1,6 +1,6 @@
 //! Changes carried out.
 ghost use Rattle.std.specs.Prelude.{◌≡◌, IfOk};
-ghost use Rattle.wit_json_commands.specs.Runs.{AnswersChange, AnswersCommand, AnswersReply};
+ghost use Rattle.wit_json_commands.specs.Runs.{CarriesOut, CarriesOutCommand, AnswersReply};
 ghost use Rattle.wit_resolve_graph.specs.Step.{IsCommandShaped};
 
 use super::shapes::find_unshaped;
@@ -12,7 +12,7 @@ use wit_ways::{Asked, way_of};
 
 /// Carries out a change, and answers it. The only refusal is want of memory outside the command (28).
 pub fn answer_change(alloc: Global, resolve: &mut Resolve, change: Change) -> ResolveResult<Answer>
-    ensures { IfOk result (λ answer. AnswersChange resolve.old change answer resolve.new) }
+    ensures { IfOk result (λ answer. CarriesOut resolve.old change answer resolve.new) }
 {
     match find_unshaped(alloc, &change)? {
         Some(unshaped) => Ok(Answer::NotShaped(unshaped)),
@@ -32,7 +32,7 @@ pub fn answer_command(
 ) -> ResolveResult<Answer>
     requires { IsCommandShaped command }
     ensures { IfOk result
-        (λ answer. AnswersCommand asked.now resolve.old command answer resolve.new) }
+        (λ answer. CarriesOutCommand asked.now resolve.old command answer resolve.new) }
 {
     let brought = Asked::of(alloc, resolve, &command)?;
     let reply = carry_out(alloc, resolve, command);

@@ -34,7 +34,7 @@ pub fn respond(alloc: Global, text: &str) -> Result<(bool, String), AllocError>
 /// What comes out of a document that is understood, or the fault of another one.
 fn outcome(alloc: Global, text: &str) -> Result<String, ReadError>
     ensures ok { IfOk result (λ out. Understands text.now (string_bytes out)) }
-    ensures err { IfErr result (TellsFaultOf text.now) }
+    ensures cause { IfErr result (TellsFaultOf text.now) }
 {
     let document: Document = read_text(alloc, text)?;
     let resolve = begin(alloc, document.resolve)?;
@@ -110,9 +110,11 @@ pub fn execute<R: Read, W: Write>(
     writer: &mut Watched<W>,
 ) -> Result<bool, StreamFault>
     ensures ok { IfOk result (λ understood. IfSome (R.remaining reader.old.inner) (λ input.
-        (text : List ℕ) × ComesOutOfBytes input understood text × Appends (W.contents writer.old.inner) (W.contents writer.new.inner) text)) }
+        (text : List ℕ) × ComesOutOfBytes input understood text
+        × Appends (W.contents writer.old.inner) (W.contents writer.new.inner) text)) }
     ensures cut { IsErrOf result StreamFault.Write → IfSome (R.remaining reader.old.inner) (λ input.
-        (understood : Bool) × (text : List ℕ) × ComesOutOfBytes input understood text × AppendsBeginning (W.contents writer.old.inner) (W.contents writer.new.inner) text) }
+        (understood : Bool) × (text : List ℕ) × ComesOutOfBytes input understood text
+        × AppendsBeginning (W.contents writer.old.inner) (W.contents writer.new.inner) text) }
     ensures untouched { IfErr result
         (λ fault. (fault ≡ StreamFault.Write) ⊎ (writer.new ≡ writer.old)) }
     ensures end { OnOk result (IfSome (R.remaining reader.new.inner) (λ rest. rest ≡ [])) }

@@ -1,7 +1,7 @@
 //! What a document asks, carried out in order.
 ghost use Rattle.std.specs.Prelude.{IfOk};
 ghost use Rattle.wit_json_commands.specs.declared.commands.orders.Order.TheVariants as order;
-ghost use Rattle.wit_json_commands.specs.Runs.{Answers, AnswersEach, Responds, RespondsEach};
+ghost use Rattle.wit_json_commands.specs.Runs.{AnswersRequest, AnswersEach, Responds, RespondsEach};
 
 use super::changes::{answer_change, answer_command};
 use crate::commands::{Order, Request};
@@ -64,7 +64,7 @@ fn answers_to(
 
 /// Carries out a request, and answers it.
 fn answer_to(alloc: Global, resolve: &mut Resolve, request: Request) -> ResolveResult<Answer>
-    ensures { IfOk result (λ answer. Answers resolve.old request answer resolve.new) }
+    ensures { IfOk result (λ answer. AnswersRequest resolve.old request answer resolve.new) }
 {
     match request {
         Request::Change(change) => answer_change(alloc, resolve, change),

@@ -36,7 +36,9 @@ abbrev pub with_entry_at : {K A X : Type 0} → (K → List ℕ) → (A → Json
     → ℕ → Bor (List ℕ) × Value X → Option (K × A) → Reading (List (K × A))
 with_entry_at name f es i member None = Ok es
 with_entry_at name f es i member (Some e) =
-    if bytes_eq member.0.now (name e.0) then (under (step.Member member.0.now) (f e.1 (value_view member.1)) >>= λ y. Ok (set_value_at es i y))
+    if bytes_eq member.0.now (name e.0)
+    then (under (step.Member member.0.now) (f e.1 (value_view member.1))
+    >>= λ y. Ok (set_value_at es i y))
     else instead_of expected.Details
 
 abbrev pub with_member : {K A X : Type 0} → (K → List ℕ) → (A → Json → Reading A) → List (K × A) → ℕ

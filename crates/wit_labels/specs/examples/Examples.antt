@@ -20,11 +20,14 @@ named_as old new = record { name = old; as_ = new }
 
 -- what renamings make of labels
 pub record ExamplesOfRenaming : Type 0 where
-  pub behind_groups : renamed_label_by (named_as (codes "r") (codes "r2")) (codes "[method][get]r.p") ≡ Some (codes "[method][get]r2.p")
+  pub behind_groups : renamed_label_by (named_as (codes "r") (codes "r2"))
+      (codes "[method][get]r.p") ≡ Some (codes "[method][get]r2.p")
   pub unclosed : renamed_label_by (named_as (codes "method") (codes "x")) (codes "[method") ≡ None
   pub not_behind_a_dot : renamed_label_by (named_as (codes "p") (codes "q")) (codes "r.p") ≡ None
   pub whole : renamed_label_by (named_as (codes "p") (codes "q")) (codes "p") ≡ Some (codes "q")
-  pub first_wins : renamed_label (named_as (codes "p") (codes "q") ∷ named_as (codes "p") (codes "s") ∷ []) (codes "p") ≡ codes "q"
+  pub first_wins : renamed_label
+      (named_as (codes "p") (codes "q") ∷ named_as (codes "p") (codes "s") ∷ []) (codes "p")
+      ≡ codes "q"
   pub none_fits : renamed_label (named_as (codes "o") (codes "q") ∷ []) (codes "p") ≡ codes "p"
 
 -- keys that are these labels
@@ -39,24 +42,34 @@ pub record ExamplesOfClashes : Type 0 where
   pub unique : AreStronglyUnique (labelled (codes "ab" ∷ codes "ac" ∷ []))
   pub method_and_dot : strong_key (codes "[method]r.p") ≡ strong_key (codes "R.P")
   pub of_getter : strong_key (codes "[get]p") ≡ record { class = Some Getter; name = codes "p" }
-  pub of_setter : strong_key (codes "[method][set]r.p") ≡ record { class = Some Setter; name = codes "r.p" }
-  pub of_constructor : strong_key (codes "[constructor]r") ≡ record { class = Some Constructor; name = codes "r" }
+  pub of_setter : strong_key (codes "[method][set]r.p")
+      ≡ record { class = Some Setter; name = codes "r.p" }
+  pub of_constructor : strong_key (codes "[constructor]r")
+      ≡ record { class = Some Constructor; name = codes "r" }
   pub of_name : strong_key (codes "r") ≡ record { class = None; name = codes "r" }
   pub of_other_name : strong_key (codes "s") ≡ record { class = None; name = codes "s" }
 
 -- an entry that is a function under this label
 abbrev pub function_entry : List ℕ → Entry
-function_entry label = (key.Name label, item.Function (new_function label function.Freestanding [] None))
+function_entry label =
+    (key.Name label, item.Function (new_function label function.Freestanding [] None))
 
 -- what is a setter, and where setters go
 pub record ExamplesOfSetters : Type 0 where
-  pub has_getter : HaveGetters (function_entry (codes "[get]p") ∷ function_entry (codes "[set]p") ∷ [])
+  pub has_getter : HaveGetters
+      (function_entry (codes "[get]p") ∷ function_entry (codes "[set]p") ∷ [])
   pub lacks_getter : HaveGetters (function_entry (codes "[set]p") ∷ []) → ⊥
   pub getter_of : getter_label (codes "[static][set]r.s") ≡ codes "[static][get]r.s"
   pub is_setter : is_setter_label (codes "[static][set]r.s") ≡ true
   pub is_getter : is_setter_label (codes "[get]p") ≡ false
-  pub setter_first : setters_placed (function_entry (codes "[set]p") ∷ function_entry (codes "f") ∷ function_entry (codes "[get]p") ∷ [])
-      ≡ function_entry (codes "f") ∷ function_entry (codes "[get]p") ∷ function_entry (codes "[set]p") ∷ []
-  pub getter_first : setters_placed (function_entry (codes "[get]p") ∷ function_entry (codes "f") ∷ function_entry (codes "[set]p") ∷ [])
-      ≡ function_entry (codes "[get]p") ∷ function_entry (codes "f") ∷ function_entry (codes "[set]p") ∷ []
-  pub getter_missing : setters_placed (function_entry (codes "[set]p") ∷ function_entry (codes "f") ∷ []) ≡ function_entry (codes "[set]p") ∷ function_entry (codes "f") ∷ []
+  pub setter_first : setters_placed (function_entry (codes "[set]p") ∷ function_entry (codes "f")
+      ∷ function_entry (codes "[get]p") ∷ [])
+      ≡ function_entry (codes "f") ∷ function_entry (codes "[get]p")
+      ∷ function_entry (codes "[set]p") ∷ []
+  pub getter_first : setters_placed (function_entry (codes "[get]p") ∷ function_entry (codes "f")
+      ∷ function_entry (codes "[set]p") ∷ [])
+      ≡ function_entry (codes "[get]p") ∷ function_entry (codes "f")
+      ∷ function_entry (codes "[set]p") ∷ []
+  pub getter_missing : setters_placed
+      (function_entry (codes "[set]p") ∷ function_entry (codes "f") ∷ [])
+      ≡ function_entry (codes "[set]p") ∷ function_entry (codes "f") ∷ []

@@ -10,8 +10,10 @@ is_of word name = bytes_eq word name.name
 -- the index at which a renaming stands, none where there is no renaming
 abbrev pub IsIndexOf : List IncludeName → Option ℕ → Option IncludeName → Type 0
 IsIndexOf names None found = found ≡ None
-IsIndexOf names (Some place) found = (name : IncludeName) × (slice_get names place ≡ Some name) × (found ≡ Some name)
+IsIndexOf names (Some place) found =
+    (name : IncludeName) × (slice_get names place ≡ Some name) × (found ≡ Some name)
 
 -- a table has under each word the index of the first renaming of it, and no word more
 abbrev pub AreFirstIndices : List IncludeName → List (List ℕ × ℕ) → Type 0
-AreFirstIndices names table = (word : List ℕ) → IsIndexOf names (lookup (bytes_eq word) table) (find (is_of word) names)
+AreFirstIndices names table =
+    (word : List ℕ) → IsIndexOf names (lookup (bytes_eq word) table) (find (is_of word) names)

@@ -7,7 +7,9 @@ use Rattle.wit_labels.specs.steps.Parts.{after, indexed_entries}
 
 -- the index of the getter of the setter at index i, where it stands after i
 abbrev pub later_getter : List Entry → ℕ → Entry → Option ℕ
-later_getter entries i e = after i (option_and_then (λ (label : List ℕ). position (is_under label) (keys_of entries)) (wanted_getter e.0 e.1))
+later_getter entries i e =
+    after i (option_and_then (λ (label : List ℕ). position (is_under label) (keys_of entries))
+    (wanted_getter e.0 e.1))
 
 -- of each entry the index of the getter that it waits for
 abbrev pub getters_of : List Entry → List (Option ℕ)

@@ -19,7 +19,9 @@ IsSetter label e = (e.0 ≡ key.Name label) × (is_function e.1 && is_setter_lab
 
 -- each setter's getter, or whatever has its label, is in the same list
 abbrev pub HaveGetters : List Entry → Type 0
-HaveGetters entries = (e : Entry) (label : List ℕ) → Contains entries e → IsSetter label e → Contains (keys_of entries) (key.Name (getter_label label))
+HaveGetters entries =
+    (e : Entry) (label : List ℕ) → Contains entries e → IsSetter label e
+    → Contains (keys_of entries) (key.Name (getter_label label))
 
 -- the entry at this index is a setter without a getter
 pub record LacksGetterAt (entries : List Entry) (index : ℕ) : Type 0 where

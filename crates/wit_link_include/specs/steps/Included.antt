@@ -187,14 +187,16 @@ CanBeIncluded b include =
 -- ---- all includes of a world, one after another
 
 -- include j is refused for this reason, and none before it is
-pub record StopsAtInclude (home : ℕ) (g : Graph) (world : World) (includes : List WorldInclude) (j : ℕ) (kind : ResolveErrorKind) : Type 0 where
+pub record StopsAtInclude (home : ℕ) (g : Graph) (world : World) (includes : List WorldInclude)
+    (j : ℕ) (kind : ResolveErrorKind) : Type 0 where
   pub include : WorldInclude
   pub is : slice_get includes j ≡ Some include
   pub earlier : (i : ℕ) → i < j → IsAcceptedAt home g world includes i
   pub cause : IsCauseOfInclude home (with_several home g world (take j includes)) include kind
 
 -- each of the includes can be made, where those before it are accepted
-pub record CanIncludeAll (home : ℕ) (g : Graph) (world : World) (includes : List WorldInclude) : Type 0 where
+pub record CanIncludeAll (home : ℕ) (g : Graph) (world : World)
+    (includes : List WorldInclude) : Type 0 where
   pub there : (j : ℕ) (include : WorldInclude) → slice_get includes j ≡ Some include
       → ((i : ℕ) → i < j → IsAcceptedAt home g world includes i) → include.id < length g.worlds
   pub own_keys : HaveOwnKeys (lists_of world)
@@ -226,7 +228,8 @@ StandsWith entries i stability =
 
 -- the stabilities of an interface that is there and comes again disagree; `other` tells whether it comes from a world
 -- of another package, whose `@since` says nothing here
-pub record StabilitiesDiffer (other : Bool) (current brought : List Entry) (brings has : Stability) : Type 0 where
+pub record StabilitiesDiffer (other : Bool) (current brought : List Entry)
+    (brings has : Stability) : Type 0 where
   pub i : ℕ
   pub there : StandsWith current i has
   pub comes : StandsWith brought i brings
@@ -235,18 +238,22 @@ pub record StabilitiesDiffer (other : Bool) (current brought : List Entry) (brin
 
 -- an item joins one that is there: their stabilities don't disagree, where both are interfaces
 abbrev pub ItemsAgree : Bool → WorldItem → WorldItem → Type 0
-ItemsAgree other (item.Interface i from docs place external_id) (item.Interface i' into docs' place' external_id') = Disagree from into → include_stability other from into ≡ from → ⊥
+ItemsAgree other (item.Interface i from docs place external_id)
+    (item.Interface i' into docs' place' external_id') = Disagree from into →
+    include_stability other from into ≡ from → ⊥
 ItemsAgree other from into = Unit {0}
 
 -- the error of two items whose stabilities disagree
 abbrev pub IsItemError : Bool → OptionalSpan → WorldItem → WorldItem → ResolveErrorKind → Type 0
-IsItemError other span (item.Interface i from docs place external_id) (item.Interface i' into docs' place' external_id') kind =
+IsItemError other span (item.Interface i from docs place external_id)
+    (item.Interface i' into docs' place' external_id') kind =
     (kind ≡ StabilityMismatch span from into) × Disagree from into
     × (include_stability other from into ≡ from)
 IsItemError other span from into kind = ⊥
 
 -- `IsJoinCause` of a list and of copies that are brought to it
-pub data IsJoinError (other : Bool) (span : OptionalSpan) (word : List ℕ) (current brought : List Entry) : ResolveErrorKind → Type 0 where
+pub data IsJoinError (other : Bool) (span : OptionalSpan) (word : List ℕ)
+    (current brought : List Entry) : ResolveErrorKind → Type 0 where
   item_shadowing_7 : (name : List ℕ) → IsShadowed current (keys_of brought) name
       → IsJoinError other span word current brought (ItemShadowing span word name)
   stability_mismatch_8 : (brings has : Stability)
@@ -254,7 +261,8 @@ pub data IsJoinError (other : Bool) (span : OptionalSpan) (word : List ℕ) (cur
       → IsJoinError other span word current brought (StabilityMismatch span brings has)
 
 -- no cause holds against joining them
-pub record JoinIsAccepted (other : Bool) (span : OptionalSpan) (word : List ℕ) (current brought : List Entry) : Type 0 where
+pub record JoinIsAccepted (other : Bool) (span : OptionalSpan) (word : List ℕ)
+    (current brought : List Entry) : Type 0 where
   pub no_cause : NoCause (IsJoinError other span word current brought)
 
 -- no cause of labels holds against a list

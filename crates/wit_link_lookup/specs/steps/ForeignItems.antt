@@ -61,7 +61,8 @@ not_found (item.Interface i) span requested home = InterfaceNotFound span reques
 not_found (item.World w) span requested home = WorldNotFound span requested home
 
 -- these items are named of this package at a place, and the graph has it there; it is there, if any is named
-pub record IsHome (a : Addition) (place : ℕ) (name : PackageName) (items : List ForeignItem) (home : Option ℕ) : Type 0 where
+pub record IsHome (a : Addition) (place : ℕ) (name : PackageName) (items : List ForeignItem)
+    (home : Option ℕ) : Type 0 where
   pub is : slice_get a.unresolved.foreign_deps place ≡ Some (name, items)
   pub found : home ≡ find_package a.graph a.unresolved.name name
   pub there : items ≢ [] → HasPackage a.graph name ⊎ (name ≡ a.unresolved.name)
@@ -73,7 +74,8 @@ ArePackagesThere a n =
     (lacks : LacksPackage a span requested known) → lacks.at < n → ⊥
 
 -- this item is named of a package that is there
-pub record NamesItem (a : Addition) (name : PackageName) (home : Option ℕ) (requested : List ℕ) (it : AstItem) : Type 0 where
+pub record NamesItem (a : Addition) (name : PackageName) (home : Option ℕ) (requested : List ℕ)
+    (it : AstItem) : Type 0 where
   pub at : ℕ
   pub notes : List Stability
   pub names : Contains (named_items a.unresolved.foreign_deps) (at, name, (requested, (it, notes)))

@@ -51,7 +51,8 @@ positions_of s functions =
 -- ---- the remap
 
 -- these types and functions are what comes, and the types go where the remap says
-pub record IsRemapOf (old types : List TypeDef) (new_ids : List (Option ℕ)) (functions : List Function) (r : ValueRemap) : Type 0 where
+pub record IsRemapOf (old types : List TypeDef) (new_ids : List (Option ℕ))
+    (functions : List Function) (r : ValueRemap) : Type 0 where
   pub graph_types : r.graph_types ≡ old
   pub new_types : r.new_types ≡ selected (is_new (length old) new_ids) types
   pub new_functions : r.new_functions ≡ functions

@@ -80,7 +80,8 @@ ReturnNoBorrow types functions =
     → HoldsBorrow types t → ⊥
 
 -- an error tells that one of some functions returns a borrow
-pub record ReturnsBorrow (types : List TypeDef) (functions : List Function) (kind : ResolveErrorKind) : Type 0 where
+pub record ReturnsBorrow (types : List TypeDef) (functions : List Function)
+    (kind : ResolveErrorKind) : Type 0 where
   pub f : Function
   pub t : ℕ
   pub there : Contains functions f

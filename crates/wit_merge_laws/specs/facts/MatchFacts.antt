@@ -58,7 +58,8 @@ module _ (m : GraphMerge) (valid : IsValid m.graph) where
       (one.0, one.1, valid.well_formed.package_names.own_name place.0 (one.0.name, p') place.1)
 
   -- what is found in a table stands there, in the package that is matched
-  pub record InTable (table : Package → List (List ℕ × ℕ)) (home : Option ℕ) (name : List ℕ) (x' : ℕ) : Type 0 where
+  pub record InTable (table : Package → List (List ℕ × ℕ)) (home : Option ℕ) (name : List ℕ)
+      (x' : ℕ) : Type 0 where
     pub p : ℕ
     pub p' : ℕ
     pub there : Package
@@ -68,11 +69,16 @@ module _ (m : GraphMerge) (valid : IsValid m.graph) where
     pub found : lookup (bytes_eq name) (table there) ≡ Some x'
     pub has : Contains (table there) (name, x')
 
-  pub in_table : (table : Package → List (List ℕ × ℕ)) (home : Option ℕ) (name : List ℕ) (x' : ℕ) → named_in_counterpart table m home name ≡ Some x' → InTable table home name x'
+  pub in_table : (table : Package → List (List ℕ × ℕ)) (home : Option ℕ) (name : List ℕ) (x' : ℕ) →
+      named_in_counterpart table m home name ≡ Some x' → InTable table home name x'
   in_table table home name x' found =
-      let one = some_parts (λ p'. option_and_then (λ (there : Package). lookup (bytes_eq name) (table there)) (slice_get m.graph.packages p')) (option_and_then (counterpart_package m) home) x' found in
+      let one = some_parts
+      (λ p'. option_and_then (λ (there : Package). lookup (bytes_eq name) (table there))
+      (slice_get m.graph.packages p')) (option_and_then (counterpart_package m) home) x' found
+      in
       let two = some_parts (counterpart_package m) home one.0 one.1 in
-      let three = some_parts (λ (there : Package). lookup (bytes_eq name) (table there)) (slice_get m.graph.packages one.0) x' one.2 in
+      let three = some_parts (λ (there : Package). lookup (bytes_eq name) (table there))
+      (slice_get m.graph.packages one.0) x' one.2 in
       record {
         p = two.0;
         p' = one.0;
@@ -81,12 +87,16 @@ module _ (m : GraphMerge) (valid : IsValid m.graph) where
         matched = two.2;
         there_is = three.1;
         found = three.2;
-        has = Contains-from_lookup (λ a b. (bytes_eq-Decides a b).0) name x' (table three.0) three.2;
+        has = Contains-from_lookup (λ a b. (bytes_eq-Decides a b).0) name x'
+            (table three.0) three.2;
       }
 
   -- the package to which a matched package goes
-  home_goes : (home : Option ℕ) (p p' : ℕ) → home ≡ Some p → counterpart_package m p ≡ Some p' → option_map (merged_package m) home ≡ Some p'
-  home_goes home p p' home_is matched = ap (option_map (merged_package m)) home_is ∙ ap (λ (q : ℕ). Some q) (goes_to (counterpart_package m p) _ p' matched)
+  home_goes : (home : Option ℕ) (p p' : ℕ) → home ≡ Some p → counterpart_package m p ≡ Some p' →
+      option_map (merged_package m) home ≡ Some p'
+  home_goes home p p' home_is matched =
+      ap (option_map (merged_package m)) home_is ∙ ap (λ (q : ℕ). Some q)
+      (goes_to (counterpart_package m p) _ p' matched)
 
   -- a world that is matched, and its counterpart
   pub record WorldMatch (w w' : ℕ) : Type 0 where

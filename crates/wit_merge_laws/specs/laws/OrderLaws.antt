@@ -44,7 +44,8 @@ IsKey g (under_label text) k = k ≡ key.Name text
 IsKey g (under_interface of name) k = (i : ℕ) × IsInterface g of name i × (k ≡ key.Interface i)
 
 -- a world has an entry under this key among its exports or its imports
-pub record HasKey (g : Graph) (home : PackageName) (world : List ℕ) (exported : Bool) (under : Key) : Type 0 where
+pub record HasKey (g : Graph) (home : PackageName) (world : List ℕ) (exported : Bool)
+    (under : Key) : Type 0 where
   pub w : ℕ
   pub of : IsWorld g home world w
   pub entry : Entry

@@ -24,7 +24,8 @@ abbrev pub AreKnown : MatchedGraphs → Type 0
 AreKnown c = AreMatches c.graph.now c.other.now c.matches.now
 
 -- thing i of a list and the one of another list with which it is matched differ, which y tells
-pub record DifferAt {X Y : Type 0} (found : ℕ → Option ℕ) (others ours : List X) (Differ : X → X → Y → Type 0) (i : ℕ) (y : Y) : Type 0 where
+pub record DifferAt {X Y : Type 0} (found : ℕ → Option ℕ) (others ours : List X)
+    (Differ : X → X → Y → Type 0) (i : ℕ) (y : Y) : Type 0 where
   pub from : X
   pub into : X
   pub from_is : slice_get others i ≡ Some from
@@ -39,7 +40,8 @@ pub data HeldDiffer (m : GraphMerge) (i i' : ℕ) (text : List ℕ) : Type 0 whe
       → from.name ≡ None → HaveFunctionMismatch from into text → HeldDiffer m i i' text
 
 -- there is no entry under a key among those of the matched world, or there is one that differs
-pub data EntryDiffers (m : GraphMerge) (word : List ℕ) (into : List Entry) (k : WorldKey) (held : WorldItem) (text : List ℕ) : Type 0 where
+pub data EntryDiffers (m : GraphMerge) (word : List ℕ) (into : List Entry) (k : WorldKey)
+    (held : WorldItem) (text : List ℕ) : Type 0 where
   absent : counterpart_item m into k ≡ None
       → text ≡ absent_text word (key_text m.other.packages m.other.interfaces k)
       → EntryDiffers m word into k held text
@@ -55,7 +57,8 @@ pub record SidesDiffer (m : GraphMerge) (from into : World) (text : List ℕ) : 
       (entries_of exported into) text
 
 -- a thing of a name and of a package differs, which a message tells with the two; sort is `interface` or `world`
-pub record PartDiffers (packages : List Package) (sort : List ℕ) (home : Option ℕ) (name : Option (List ℕ)) (Differ : List ℕ → Type 0) (message : List ℕ) : Type 0 where
+pub record PartDiffers (packages : List Package) (sort : List ℕ) (home : Option ℕ)
+    (name : Option (List ℕ)) (Differ : List ℕ → Type 0) (message : List ℕ) : Type 0 where
   pub there : Package
   pub there_is : option_and_then (slice_get packages) home ≡ Some there
   pub called : List ℕ

@@ -76,7 +76,8 @@ KnowsWorlds s =
     (length s.other.now.worlds) s.worlds.now
 
 -- interfaces are found by name, those without by the first of some labels of worlds
-pub record AreLabelled (g other : Graph) (named : List (Option ℕ)) (spots : List (ℕ × WorldLabel)) (found : List (Option ℕ)) : Type 0 where
+pub record AreLabelled (g other : Graph) (named : List (Option ℕ)) (spots : List (ℕ × WorldLabel))
+    (found : List (Option ℕ)) : Type 0 where
   pub long : length found ≡ length other.interfaces
   pub each : (i : ℕ)
       → get_or found i None

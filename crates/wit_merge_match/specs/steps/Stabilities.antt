@@ -38,7 +38,8 @@ matched_stability m into (key.Interface i) =
 matched_stability m into (key.Name label) = None
 
 -- those of an entry and of the one under its key
-pub record EntryApart (m : GraphMerge) (into : List Entry) (k : WorldKey) (held : WorldItem) (s : Stability × Stability) : Type 0 where
+pub record EntryApart (m : GraphMerge) (into : List Entry) (k : WorldKey) (held : WorldItem)
+    (s : Stability × Stability) : Type 0 where
   pub comes : own_stability k held ≡ Some s.0
   pub there : matched_stability m into k ≡ Some s.1
   pub apart : Disagree s.0 s.1

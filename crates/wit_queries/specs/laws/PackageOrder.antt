@@ -17,6 +17,9 @@ pub record IsOrder (uses : List (List ℕ)) (count : ℕ) (order : List ℕ) : T
 
 -- where no package depends on itself, the packages in order are such an order of all of them
 abbrev pub PackagesAreInOrder : Type 0
-PackagesAreInOrder = (types : List TypeDef) (interfaces : List Interface) (worlds : List World) (packages : List Package)
+PackagesAreInOrder =
+    (types : List TypeDef) (interfaces : List Interface) (worlds : List World)
+    (packages : List Package)
     → IsAcyclic (package_uses types interfaces worlds packages)
-    → IsOrder (package_uses types interfaces worlds packages) (length packages) (topological_packages types interfaces worlds packages)
+    → IsOrder (package_uses types interfaces worlds packages) (length packages)
+    (topological_packages types interfaces worlds packages)

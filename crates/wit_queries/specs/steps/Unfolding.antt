@@ -13,12 +13,14 @@ futures_of types held t = filter (is_future types) (post_order held t)
 
 -- the types of an order that are not marked hold neither futures nor streams
 abbrev pub OthersHoldNone : List TypeDef → List (List ℕ) → List ℕ → List ℕ → Type 0
-OthersHoldNone types held order marked = (t : ℕ) → Contains order t → (Contains marked t → ⊥) → futures_of types held t ≡ []
+OthersHoldNone types held order marked =
+    (t : ℕ) → Contains order t → (Contains marked t → ⊥) → futures_of types held t ≡ []
 
 -- that stays so where the order goes on with a type whose parts are in it
 abbrev pub KeepsOthers : List TypeDef → List (List ℕ) → List ℕ → List ℕ → ℕ → Type 0
 KeepsOthers types held old new t =
-    (order : List ℕ) → All (Contains order) (direct held t) → OthersHoldNone types held order old → OthersHoldNone types held (order ++ t ∷ []) new
+    (order : List ℕ) → All (Contains order) (direct held t) → OthersHoldNone types held order old
+    → OthersHoldNone types held (order ++ t ∷ []) new
 
 -- the places of a list that are there
 abbrev pub places_within : ℕ → List ℕ → List ℕ

@@ -78,7 +78,8 @@ pub record WholeWorldFits (offset : ℕ) (world : World) : Type 0 where
   pub includes : Each (λ (i : WorldInclude). Fits offset i.span) world.includes
 
 -- those of types, interfaces and worlds
-pub record PartsFit (offset : ℕ) (types : List TypeDef) (interfaces : List Interface) (worlds : List World) : Type 0 where
+pub record PartsFit (offset : ℕ) (types : List TypeDef) (interfaces : List Interface)
+    (worlds : List World) : Type 0 where
   pub of_types : Each (TypeFits (Fits offset)) types
   pub of_interfaces : Each (InterfaceFits (Fits offset)) interfaces
   pub of_worlds : Each (WholeWorldFits offset) worlds
@@ -133,7 +134,8 @@ added_worlds a = map (added_world a) (own_worlds a)
 -- ---- the same by what ids are remapped to, whatever the addition
 
 -- what can be moved to the ends of a graph: its spans fit, and names and keys differ with their new ids
-pub record CanMoveParts (new_ids : NewIds) (m : Maps) (kept : KeptIds) (g : Graph) (u : UnresolvedPackage) : Type 0 where
+pub record CanMoveParts (new_ids : NewIds) (m : Maps) (kept : KeptIds) (g : Graph)
+    (u : UnresolvedPackage) : Type 0 where
   pub new : lookup (same_package u.name) g.package_names ≡ None
   pub types : Each (TypeFits (Fits m.offset)) u.types
   pub interfaces : Each (InterfaceFits (Fits m.offset)) u.interfaces

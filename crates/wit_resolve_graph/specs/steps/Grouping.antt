@@ -10,7 +10,8 @@ use Rattle.wit_link.specs.Appending.{AreAdded}
 use Rattle.wit_link.specs.GroupOrder.{AreSorted, IsSortCause, Unresolved}
 
 -- packages are added in their order, no cause holds against it, and the one of a name has this id
-pub record AreAddedTogether (features : Features) (g : Graph) (unresolved : List Unresolved) (name : PackageName) (id : ℕ) (new : Graph) : Type 0 where
+pub record AreAddedTogether (features : Features) (g : Graph) (unresolved : List Unresolved)
+    (name : PackageName) (id : ℕ) (new : Graph) : Type 0 where
   pub order : List ℕ
   pub sorted : List Unresolved
   pub ids : List ℕ

@@ -8,8 +8,12 @@ use Rattle.wit_script_package.specs.Mention.{mentions_of}
 -- a first token of lines of a package without a path
 abbrev pub takes_no_path : List ℕ → Bool
 takes_no_path word =
-    bytes_eq word (codes "interface") || (bytes_eq word (codes "world") || (bytes_eq word (codes "type") || (bytes_eq word (codes "record")
-    || (bytes_eq word (codes "resource") || (bytes_eq word (codes "func") || (bytes_eq word (codes "import-func") || bytes_eq word (codes "export-func")))))))
+    bytes_eq word (codes "interface")
+    || (bytes_eq word (codes "world")
+    || (bytes_eq word (codes "type") || (bytes_eq word (codes "record")
+    || (bytes_eq word (codes "resource")
+    || (bytes_eq word (codes "func")
+    || (bytes_eq word (codes "import-func") || bytes_eq word (codes "export-func")))))))
 
 -- a first token of lines of a package with a path
 abbrev pub takes_path : List ℕ → Bool

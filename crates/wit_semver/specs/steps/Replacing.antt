@@ -54,7 +54,8 @@ is_newer g None v = true
 is_newer g (Some j) v = option_map_or (λ w. is_below w v) (versioned g j) true
 
 -- a table tells of each track on which some interfaces are one of them, of which none is of a greater version
-pub record IsNewestTable (rule : TrackRule) (g : Graph) (ids : List ℕ) (table : List (TrackKey × ℕ)) : Type 0 where
+pub record IsNewestTable (rule : TrackRule) (g : Graph) (ids : List ℕ)
+    (table : List (TrackKey × ℕ)) : Type 0 where
   pub from : (k : TrackKey) (j : ℕ) → lookup (same_track k) table ≡ Some j
       → Contains ids j × (key_at rule g j ≡ Some k)
   pub into : (i : ℕ) (k : TrackKey) → Contains ids i → key_at rule g i ≡ Some k
@@ -112,7 +113,8 @@ pub record HasNewEntries (u : SemverMerge) (entries : NewEntries) : Type 0 where
 
 -- nothing of what reads the graph as it was holds against merging the imports of world w, and this is what
 -- it lists then and what types name then
-pub record AreNewEntries (rule : TrackRule) (g : Graph) (w : ℕ) (imports : List Entry) (targets : List (Option ℕ)) : Type 0 where
+pub record AreNewEntries (rule : TrackRule) (g : Graph) (w : ℕ) (imports : List Entry)
+    (targets : List (Option ℕ)) : Type 0 where
   pub world : World
   pub there : slice_get g.worlds w ≡ Some world
   pub complete : IsComplete (semver_merge rule g world)

@@ -41,7 +41,8 @@ impl SourceMap {
         span: Span,
         text: &str,
     ) -> Result<Option<String>, AllocError>
-        ensures { IfOk result (λ shown. option_map string_bytes shown ≡ highlight_text self.now.files span text.now) }
+        ensures { IfOk result (λ shown.
+            option_map string_bytes shown ≡ highlight_text self.now.files span text.now) }
     {
         match self.file_at(span) {
             Some(file) => Ok(Some(file.highlight_text(alloc, span, text)?)),
@@ -52,7 +53,8 @@ impl SourceMap {
     /// The place at which a span begins, and below it the line with its number and the span underlined in it; of a line of
     /// more than 500 bytes its beginning. None where the span is unknown or in no file. The only error is want of memory.
     pub fn show_span(&self, alloc: Global, span: Span) -> Result<Option<String>, AllocError>
-        ensures { IfOk result (λ shown. option_map string_bytes shown ≡ shown_span self.now.files span) }
+        ensures { IfOk result
+            (λ shown. option_map string_bytes shown ≡ shown_span self.now.files span) }
     {
         match self.file_at(span) {
             Some(file) => Ok(Some(file.shown_text(alloc, span)?)),
@@ -88,8 +90,10 @@ impl SourceFile {
     fn location(&self, span: Span) -> Location<'_>
         requires { IsIn self.now span }
         ensures path { result.path.now ≡ self.now.path }
-        ensures line { result.line ≡ line_number self.now.contents (offset_in self.now (start_of span)) }
-        ensures column { result.column ≡ column self.now.contents (offset_in self.now (start_of span)) }
+        ensures line { result.line
+            ≡ line_number self.now.contents (offset_in self.now (start_of span)) }
+        ensures column { result.column
+            ≡ column self.now.contents (offset_in self.now (start_of span)) }
     {
         let contents = self.contents.as_str();
         let offset = (span.start() - self.start) as usize;
@@ -103,7 +107,8 @@ impl SourceFile {
     /// A text with the line in which a span of this file begins.
     fn highlight_text(&self, alloc: Global, span: Span, text: &str) -> Result<String, AllocError>
         requires { IsIn self.now span }
-        ensures { IfOk result (λ shown. string_bytes shown ≡ highlight_text_in self.now span text.now) }
+        ensures { IfOk result
+            (λ shown. string_bytes shown ≡ highlight_text_in self.now span text.now) }
     {
         let location = self.location(span);
         let offset = (span.start() - self.start) as usize;

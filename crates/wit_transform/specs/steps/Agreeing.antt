@@ -34,7 +34,8 @@ pub record ResultsAgree (from into : Option Type_) : Type 0 where
 -- ---- functions of interfaces
 
 -- an interface has a function of this name, with which the function disagrees
-pub record DisagreesIn (into : Interface) (name : List ℕ) (function : Function) (text : List ℕ) : Type 0 where
+pub record DisagreesIn (into : Interface) (name : List ℕ) (function : Function)
+    (text : List ℕ) : Type 0 where
   pub other : Function
   pub other_has : Contains into.functions (name, other)
   pub ending : List ℕ

@@ -45,7 +45,8 @@ IsAt arrows start first reached (Some q) name met =
     × (slice_get arrows r.arrow ≡ Some a) × (name ≡ a.to) × (met ≡ r.met)
 
 -- what is reached at place q is reached along its arrow from where the search stood before
-pub record IsLinked (arrows : List Arrow) (goals : List (List ℕ)) (start : List ℕ) (first : Bool) (reached : List Reached) (q : ℕ) (r : Reached) : Type 0 where
+pub record IsLinked (arrows : List Arrow) (goals : List (List ℕ)) (start : List ℕ) (first : Bool)
+    (reached : List Reached) (q : ℕ) (r : Reached) : Type 0 where
   pub arrow : Arrow
   pub there : slice_get arrows r.arrow ≡ Some arrow
   pub met : Bool
@@ -54,7 +55,8 @@ pub record IsLinked (arrows : List Arrow) (goals : List (List ℕ)) (start : Lis
   pub earlier : IfSome r.before (λ p. p < q)
 
 -- a search from a start: all that it has reached is linked, and each name that is seen is reached
-pub record IsSearching (arrows : List Arrow) (goals : List (List ℕ)) (start : List ℕ) (first : Bool) (s : Search) : Type 0 where
+pub record IsSearching (arrows : List Arrow) (goals : List (List ℕ)) (start : List ℕ) (first : Bool)
+    (s : Search) : Type 0 where
   pub linked : (q : ℕ) (r : Reached) → slice_get s.reached q ≡ Some r
       → IsLinked arrows goals start first s.reached q r
   pub seen : (name : List ℕ) (met : Bool) → IsSeen s name met
@@ -67,7 +69,8 @@ IsClosed arrows goals s name met =
     → IsSeen s a.to (met || not (is_among goals a.to))
 
 -- a search that has come to its end
-pub record IsSearched (arrows : List Arrow) (goals : List (List ℕ)) (start : List ℕ) (first : Bool) (s : Search) : Type 0 where
+pub record IsSearched (arrows : List Arrow) (goals : List (List ℕ)) (start : List ℕ) (first : Bool)
+    (s : Search) : Type 0 where
   pub searching : IsSearching arrows goals start first s
   pub begun : IsClosed arrows goals s start first
   pub closed : (q : ℕ) (name : List ℕ) (met : Bool)
@@ -90,7 +93,8 @@ abbrev pub with_reached : Search → List ℕ → Reached → Search
 with_reached s to r = if is_among (names_reached s r.met) to then s else with_new s to r r.met
 
 -- a search goes on from a name at which it stands: it stays one, loses nothing, and comes nearer to its end
-pub record GoesOn (arrows : List Arrow) (goals : List (List ℕ)) (from : List ℕ) (met : Bool) (before : Option ℕ) (old new : Search) : Type 0 where
+pub record GoesOn (arrows : List Arrow) (goals : List (List ℕ)) (from : List ℕ) (met : Bool)
+    (before : Option ℕ) (old new : Search) : Type 0 where
   pub stays : (start : List ℕ) (first : Bool) → IsSearching arrows goals start first old
       → IsAt arrows start first old.reached before from met
       → IsSearching arrows goals start first new

@@ -6,4 +6,5 @@ use Rattle.wit_data.proofs.reference.push_params.Given as goal
 
 -- those of the first ones have been added
 abbrev pub invariant-loop-param : goal.invariant-loop-param
-invariant-loop-param l = l.ids ≡ l.fn.ids ++ flat_map (λ (p : Param). named_type p.ty) (take l.param-index l.params)
+invariant-loop-param l =
+    l.ids ≡ l.fn.ids ++ flat_map (λ (p : Param). named_type p.ty) (take l.param-index l.params)

@@ -5,4 +5,5 @@ use Rattle.wit_data.proofs.reference.type_references.Given as goal
 
 -- the rows so far
 abbrev pub invariant-loop-def : goal.invariant-loop-def
-invariant-loop-def l = l.rows ≡ map (λ (def : TypeDef). referred def.kind) (take l.def-index l.types)
+invariant-loop-def l =
+    l.rows ≡ map (λ (def : TypeDef). referred def.kind) (take l.def-index l.types)

@@ -4,4 +4,5 @@ use Rattle.wit_data.proofs.uses.uses_of.Given as goal
 
 -- the rows so far
 abbrev pub invariant-loop-interface : goal.invariant-loop-interface
-invariant-loop-interface l = l.rows ≡ map (interface_uses l.types) (take l.interface-index l.interfaces)
+invariant-loop-interface l =
+    l.rows ≡ map (interface_uses l.types) (take l.interface-index l.interfaces)

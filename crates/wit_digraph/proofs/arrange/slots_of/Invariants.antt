@@ -4,4 +4,5 @@ use Rattle.wit_digraph.proofs.arrange.slots_of.Given as goal
 
 -- those so far, and those to come
 abbrev pub invariant-loop-item : goal.invariant-loop-item
-invariant-loop-item g l = l.slots ++ map Some (into_iter_items l.item-iterator) ≡ map Some l.fn.items
+invariant-loop-item g l =
+    l.slots ++ map Some (into_iter_items l.item-iterator) ≡ map Some l.fn.items

@@ -10,6 +10,8 @@ use Rattle.wit_elaboration.proofs.all_worlds.all_lists.Given as goal
 abbrev pub invariant-loop-world : goal.invariant-loop-world
 invariant-loop-world l = record {
   lists : AreListsOf l.graph (take l.world-index l.graph.worlds) l.all;
-  no_conflict : EachBelow l.world-index (λ _ (world : World). HasTransitiveConflict (graph_uses l.graph) world.exports → ⊥) l.graph.worlds;
+  no_conflict : EachBelow l.world-index
+      (λ _ (world : World). HasTransitiveConflict (graph_uses l.graph) world.exports → ⊥)
+      l.graph.worlds;
   same : l.elaborator ≡ graph_uses l.graph;
 }

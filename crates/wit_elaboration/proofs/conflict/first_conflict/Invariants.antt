@@ -5,4 +5,5 @@ use Rattle.wit_elaboration.proofs.conflict.first_conflict.Given as goal
 
 -- none so far
 abbrev pub invariant-loop-index : goal.invariant-loop-index
-invariant-loop-index l = (e : Entry) → Contains (take l.index l.exports) e → IsEntryInConflict l.uses l.exports e → ⊥
+invariant-loop-index l =
+    (e : Entry) → Contains (take l.index l.exports) e → IsEntryInConflict l.uses l.exports e → ⊥

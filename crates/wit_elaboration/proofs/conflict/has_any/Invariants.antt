@@ -3,4 +3,5 @@ use Rattle.wit_elaboration.proofs.conflict.has_any.Given as goal
 
 -- none so far
 abbrev pub invariant-loop-node : goal.invariant-loop-node
-invariant-loop-node l = (i : ℕ) → Contains (take l.node-index l.nodes) i → Contains l.listing.order i → ⊥
+invariant-loop-node l =
+    (i : ℕ) → Contains (take l.node-index l.nodes) i → Contains l.listing.order i → ⊥

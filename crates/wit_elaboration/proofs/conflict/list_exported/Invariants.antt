@@ -6,6 +6,7 @@ use Rattle.wit_elaboration.specs.steps.Parts.{exported_keys}
 -- those so far, and those that are left
 abbrev pub invariant-loop-key : goal.invariant-loop-key
 invariant-loop-key l = record {
-  order_is : l.exported.order ++ fresh l.exported.order (exported_keys l.key-iterator) ≡ first_of_each (exported_keys l.exports);
+  order_is : l.exported.order ++ fresh l.exported.order (exported_keys l.key-iterator)
+      ≡ first_of_each (exported_keys l.exports);
   nodes : l.exported.nodes ≡ l.fn.exported.nodes;
 }

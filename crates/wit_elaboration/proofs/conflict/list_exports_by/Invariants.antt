@@ -7,6 +7,7 @@ use Rattle.wit_elaboration.proofs.conflict.list_exports_by.Given as goal
 -- what was walked, and what is left to walk
 abbrev pub invariant-loop-item : goal.invariant-loop-item
 invariant-loop-item l = record {
-  order_is : l.walked.order ++ fresh l.walked.order (all_needs l.uses l.item-iterator) ≡ first_of_each (all_needs l.uses l.exports);
+  order_is : l.walked.order ++ fresh l.walked.order (all_needs l.uses l.item-iterator)
+      ≡ first_of_each (all_needs l.uses l.exports);
   is_walk : IsPostOrder l.uses l.walked;
 }

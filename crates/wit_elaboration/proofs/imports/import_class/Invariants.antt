@@ -11,7 +11,9 @@ use Rattle.wit_elaboration.specs.steps.Parts.{of_class}
 abbrev pub invariant-loop-key : goal.invariant-loop-key
 invariant-loop-key l = record {
   imports_are : l.imports ++ fresh_entries (keys_of l.imports) (flat_map (import_with_needs l.types l.uses) (of_class l.types l.class l.key-iterator))
-      ≡ l.fn.imports ++ fresh_entries (keys_of l.fn.imports) (flat_map (import_with_needs l.types l.uses) (of_class l.types l.class l.listed));
+      ≡ l.fn.imports
+      ++ fresh_entries (keys_of l.fn.imports)
+      (flat_map (import_with_needs l.types l.uses) (of_class l.types l.class l.listed));
   nodes : l.walked.nodes ≡ l.fn.walked.nodes;
   state : IsImporting l.uses l.walked l.imports;
 }

@@ -9,5 +9,8 @@ abbrev pub invariant-loop-used : goal.invariant-loop-used
 invariant-loop-used l = record {
   is_walk : IsPostOrder l.uses l.walked;
   nodes : l.walked.nodes ≡ l.fn.walked.nodes;
-  order_is : l.walked.order ≡ l.fn.walked.order ++ fresh l.fn.walked.order (flat_map (post_order l.uses) (take l.used-index (direct l.uses l.interface)));
+  order_is : l.walked.order
+      ≡ l.fn.walked.order
+      ++ fresh l.fn.walked.order
+      (flat_map (post_order l.uses) (take l.used-index (direct l.uses l.interface)));
 }

@@ -6,4 +6,7 @@ use Rattle.wit_labels.specs.steps.Parts.{indexed_entries}
 
 -- those so far
 abbrev pub invariant-loop-index : goal.invariant-loop-index
-invariant-loop-index l = l.getters ≡ map (λ (p : ℕ × Entry). later_getter l.entries p.0 p.1) (take l.index (indexed_entries l.entries))
+invariant-loop-index l =
+    l.getters
+    ≡ map (λ (p : ℕ × Entry). later_getter l.entries p.0 p.1)
+    (take l.index (indexed_entries l.entries))

@@ -45,5 +45,5 @@ on_err : {T E P : Type 0} (r : Result T E) → P → OnErr r P
 on_err (Ok x) p = tt
 on_err (Err e) p = p
 
-pub returns-then-is_err-clause-err : goal.returns-then-is_err-clause-err
-returns-then-is_err-clause-err c = on_err c.append_each-added.result (c.cut.ensures.back c.args.graph.now c.of-mark.ensures c.append_each-added.ensures.grown)
+pub returns-then-is_err-clause-unchanged : goal.returns-then-is_err-clause-unchanged
+returns-then-is_err-clause-unchanged c = on_err c.append_each-added.result (c.cut.ensures.back c.args.graph.now c.of-mark.ensures c.append_each-added.ensures.grown)

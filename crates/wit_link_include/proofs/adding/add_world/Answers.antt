@@ -46,7 +46,7 @@ returns-in_err-finish_world-clause-cause c =
     c.in_err-finish_world.ensures.cause))
 
 pub returns-in_err-finish_world-clause-grown : goal.returns-in_err-finish_world-clause-grown
-returns-in_err-finish_world-clause-grown c = subst (Grown c.args.graph.now) (sym c.in_err-finish_world.ensures.err) c.include_each.ensures.grown
+returns-in_err-finish_world-clause-grown c = subst (Grown c.args.graph.now) (sym c.in_err-finish_world.ensures.unchanged) c.include_each.ensures.grown
 
 pub returns-clause-ok : goal.returns-clause-ok
 returns-clause-ok c =

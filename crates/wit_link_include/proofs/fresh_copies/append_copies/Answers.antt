@@ -9,7 +9,7 @@ pub returns-in_err-types-clause-grown : goal.returns-in_err-types-clause-grown
 returns-in_err-types-clause-grown c = Grown-same c.args.graph.now
 
 pub returns-in_err-append-clause-grown : goal.returns-in_err-append-clause-grown
-returns-in_err-append-clause-grown c = types_grow c.args.graph.now c.append.new.self (Begins-as c.args.graph.now.types c.append.new.self c.in_err-append.ensures.err)
+returns-in_err-append-clause-grown c = types_grow c.args.graph.now c.append.new.self (Begins-as c.args.graph.now.types c.append.new.self c.in_err-append.ensures.unchanged)
 
 pub returns-in_err-interfaces-clause-grown : goal.returns-in_err-interfaces-clause-grown
 returns-in_err-interfaces-clause-grown c = types_grow c.args.graph.now c.append.new.self (Begins-by c.args.graph.now.types c.append.new.self c.in_ok-types.types c.in_ok-append.ensures.ok)
@@ -19,7 +19,7 @@ returns-in_err-append-2-clause-grown c =
     let g = c.args.graph.now in
     let with_types : Graph = record g { types = c.append.new.self } in
     Grown-then g with_types _ (types_grow g c.append.new.self (Begins-by g.types c.append.new.self c.in_ok-types.types c.in_ok-append.ensures.ok))
-    (interfaces_grow with_types c.append-2.new.self (Begins-as g.interfaces c.append-2.new.self c.in_err-append-2.ensures.err))
+    (interfaces_grow with_types c.append-2.new.self (Begins-as g.interfaces c.append-2.new.self c.in_err-append-2.ensures.unchanged))
 
 pub returns-clause-grown : goal.returns-clause-grown
 returns-clause-grown c =

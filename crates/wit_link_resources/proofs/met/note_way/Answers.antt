@@ -38,8 +38,8 @@ loop-target-init c = record {
 }
 
 pub returns-in_err-push-clause-met : goal.returns-in_err-push-clause-met
-returns-in_err-push-clause-met c = subst (AreRight c.args.types.now) (sym c.in_err-push.ensures.err) c.loop-target.invariant.met
+returns-in_err-push-clause-met c = subst (AreRight c.args.types.now) (sym c.in_err-push.ensures.unchanged) c.loop-target.invariant.met
 
 pub returns-in_err-push-clause-begins : goal.returns-in_err-push-clause-begins
 returns-in_err-push-clause-begins c =
-    subst (λ (es : List (ℕ × Bool)). take (length c.args.met.now) es ≡ c.args.met.now) (sym c.in_err-push.ensures.err) c.loop-target.invariant.begins
+    subst (λ (es : List (ℕ × Bool)). take (length c.args.met.now) es ≡ c.args.met.now) (sym c.in_err-push.ensures.unchanged) c.loop-target.invariant.begins

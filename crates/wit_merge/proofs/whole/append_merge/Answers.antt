@@ -67,13 +67,13 @@ returns-in_err-append-clause-cause c =
     ]))
 
 pub returns-in_err-append-clause-valid : goal.returns-in_err-append-clause-valid
-returns-in_err-append-clause-valid c = subst IsValid (sym c.in_err-append.ensures.err) c.requires.valid
+returns-in_err-append-clause-valid c = subst IsValid (sym c.in_err-append.ensures.unchanged) c.requires.valid
 
 pub returns-in_err-append-clause-uses : goal.returns-in_err-append-clause-uses
-returns-in_err-append-clause-uses c = c.in_err-append.ensures.rows_err ∙ (c.requires.uses ∙ ap graph_uses (sym c.in_err-append.ensures.err))
+returns-in_err-append-clause-uses c = c.in_err-append.ensures.rows_err ∙ (c.requires.uses ∙ ap graph_uses (sym c.in_err-append.ensures.unchanged))
 
 pub returns-in_err-append-clause-met : goal.returns-in_err-append-clause-met
-returns-in_err-append-clause-met c = subst (λ (g : Graph). AreRight g.types c.what_comes.new.met) (sym c.in_err-append.ensures.err) c.in_ok-coming.ensures.met
+returns-in_err-append-clause-met c = subst (λ (g : Graph). AreRight g.types c.what_comes.new.met) (sym c.in_err-append.ensures.unchanged) c.in_ok-coming.ensures.met
 
 pub returns-in_err-coming-clause-grown : goal.returns-in_err-coming-clause-grown
 returns-in_err-coming-clause-grown c = Grown-same c.args.graph.now

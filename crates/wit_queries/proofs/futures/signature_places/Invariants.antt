@@ -7,4 +7,7 @@ use Rattle.wit_queries.proofs.futures.signature_places.Given as goal
 
 -- those of the first parameters
 abbrev pub invariant-loop-param : goal.invariant-loop-param
-invariant-loop-param l = l.places ≡ places_within l.count (flat_map (λ (p : Param). named_type p.ty) (take l.param-index l.function.params))
+invariant-loop-param l =
+    l.places
+    ≡ places_within l.count
+    (flat_map (λ (p : Param). named_type p.ty) (take l.param-index l.function.params))

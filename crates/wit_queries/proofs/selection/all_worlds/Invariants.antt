@@ -9,4 +9,7 @@ use Rattle.wit_queries.proofs.selection.all_worlds.Given as goal
 -- the lines so far
 abbrev pub invariant-loop-world : goal.invariant-loop-world
 invariant-loop-world l =
-    string_bytes l.lines ≡ flat_map (λ (world : World). option_map_or (λ p. world_line (id_text l.graph.packages p world.name)) world.package []) (take l.world-index l.graph.worlds)
+    string_bytes l.lines
+    ≡ flat_map (λ (world : World).
+    option_map_or (λ p. world_line (id_text l.graph.packages p world.name)) world.package
+    []) (take l.world-index l.graph.worlds)

@@ -7,4 +7,7 @@ use Rattle.wit_queries.specs.steps.Parts.{package_world_lines}
 
 -- the lines so far, and those of the worlds that are left
 abbrev pub invariant-loop-name : goal.invariant-loop-name
-invariant-loop-name l = string_bytes l.lines ++ flat_map (λ (e : List ℕ × ℕ). world_line (id_text l.graph.packages l.id e.0)) l.name-iterator ≡ package_world_lines l.graph l.id l.package
+invariant-loop-name l =
+    string_bytes l.lines
+    ++ flat_map (λ (e : List ℕ × ℕ). world_line (id_text l.graph.packages l.id e.0))
+    l.name-iterator ≡ package_world_lines l.graph l.id l.package

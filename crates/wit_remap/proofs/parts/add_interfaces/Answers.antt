@@ -49,7 +49,7 @@ pub returns-in_err-updated-clause-grown : goal.returns-in_err-updated-clause-gro
 returns-in_err-updated-clause-grown c = Grown-same c.args.graph.now
 
 pub returns-in_err-append-clause-grown : goal.returns-in_err-append-clause-grown
-returns-in_err-append-clause-grown c = interfaces_grow c.args.graph.now c.append.new.self (Begins-as c.args.graph.now.interfaces c.append.new.self c.in_err-append.ensures.err)
+returns-in_err-append-clause-grown c = interfaces_grow c.args.graph.now c.append.new.self (Begins-as c.args.graph.now.interfaces c.append.new.self c.in_err-append.ensures.unchanged)
 
 pub returns-clause-grown : goal.returns-clause-grown
 returns-clause-grown c = interfaces_grow c.args.graph.now c.append.new.self (Begins-by c.args.graph.now.interfaces c.append.new.self c.in_ok-updated.updated c.in_ok-append.ensures.ok)

@@ -20,7 +20,7 @@ pub returns-in_err-append-clause-grown : goal.returns-in_err-append-clause-grown
 returns-in_err-append-clause-grown c = Grown-same c.args.graph.now
 
 pub returns-in_err-append-2-clause-grown : goal.returns-in_err-append-2-clause-grown
-returns-in_err-append-2-clause-grown c = types_grow c.args.graph.now c.append-2.new.self (Begins-as c.args.graph.now.types c.append-2.new.self c.in_err-append-2.ensures.err)
+returns-in_err-append-2-clause-grown c = types_grow c.args.graph.now c.append-2.new.self (Begins-as c.args.graph.now.types c.append-2.new.self c.in_err-append-2.ensures.unchanged)
 
 pub returns-clause-grown : goal.returns-clause-grown
 returns-clause-grown c = types_grow c.args.graph.now c.append-2.new.self (Begins-by c.args.graph.now.types c.append-2.new.self c.append.new.self c.in_ok-append-2.ensures.ok)

@@ -33,7 +33,7 @@ follow-requires-clause-known c = flags_known c.args.graph.now c.append_all_with.
 pub returns-in_err-follow-clause-kept : goal.returns-in_err-follow-clause-kept
 returns-in_err-follow-clause-kept c =
     kept_cut c.args.graph.now c.append_all_with.new.graph c.follow.new.graph c.args.kept.now c.follow.new.self c.of-mark.result c.of-known.result c.append_all_with.new.caches c.requires.kept c.append_all_with.ensures.grown c.of-mark.ensures c.append_all_with.ensures.known
-    c.of-known.ensures c.in_err-follow.ensures.err
+    c.of-known.ensures c.in_err-follow.ensures.unchanged
 
 pub returns-clause-kept : goal.returns-clause-kept
 returns-clause-kept c =
@@ -43,5 +43,5 @@ pub returns-in_err-append_all_with-clause-kept : goal.returns-in_err-append_all_
 returns-in_err-append_all_with-clause-kept c = record {
   valid = c.append_all_with.ensures.valid;
   caches = c.append_all_with.ensures.caches;
-  bits = subst (λ (g : Graph). AreValidBitsOf g.types c.args.kept.now.valid_bits) (sym c.in_err-append_all_with.ensures.err) c.requires.kept.bits;
+  bits = subst (λ (g : Graph). AreValidBitsOf g.types c.args.kept.now.valid_bits) (sym c.in_err-append_all_with.ensures.unchanged) c.requires.kept.bits;
 }

@@ -10,7 +10,7 @@ follow-requires-clause-known c = flags_known c.args.graph.now c.append_with.new.
 pub returns-in_err-follow-clause-kept : goal.returns-in_err-follow-clause-kept
 returns-in_err-follow-clause-kept c =
     kept_cut c.args.graph.now c.append_with.new.graph c.follow.new.graph c.args.kept.now c.follow.new.self c.of-mark.result c.of-known.result c.append_with.new.caches c.requires.kept c.append_with.ensures.grown c.of-mark.ensures c.append_with.ensures.known
-    c.of-known.ensures c.in_err-follow.ensures.err
+    c.of-known.ensures c.in_err-follow.ensures.unchanged
 
 pub returns-clause-kept : goal.returns-clause-kept
 returns-clause-kept c =
@@ -20,5 +20,5 @@ pub returns-in_err-id-clause-kept : goal.returns-in_err-id-clause-kept
 returns-in_err-id-clause-kept c = record {
   valid = c.append_with.ensures.valid;
   caches = c.append_with.ensures.caches;
-  bits = subst (λ (g : Graph). AreValidBitsOf g.types c.args.kept.now.valid_bits) (sym c.in_err-id.ensures.err) c.requires.kept.bits;
+  bits = subst (λ (g : Graph). AreValidBitsOf g.types c.args.kept.now.valid_bits) (sym c.in_err-id.ensures.unchanged) c.requires.kept.bits;
 }

@@ -11,7 +11,7 @@ pub returns-in_err-follow-clause-kept : goal.returns-in_err-follow-clause-kept
 returns-in_err-follow-clause-kept c =
     kept_cut c.args.graph.now c.append_merge.new.graph c.follow.new.graph c.args.kept.now c.follow.new.self c.of-mark.result c.of-known.result (record { elaborator = c.append_merge.new.elaborator; met = c.append_merge.new.met }) c.requires.kept c.append_merge.ensures.grown c.of-mark.ensures
     (record { rows = c.append_merge.ensures.rows; met = c.append_merge.ensures.met_before })
-    c.of-known.ensures c.in_err-follow.ensures.err
+    c.of-known.ensures c.in_err-follow.ensures.unchanged
 
 pub returns-clause-kept : goal.returns-clause-kept
 returns-clause-kept c =
@@ -22,5 +22,5 @@ pub returns-in_err-remap-clause-kept : goal.returns-in_err-remap-clause-kept
 returns-in_err-remap-clause-kept c = record {
   valid = c.append_merge.ensures.valid;
   caches = record { uses = c.append_merge.ensures.uses; met = c.append_merge.ensures.met };
-  bits = subst (λ (g : Graph). AreValidBitsOf g.types c.args.kept.now.valid_bits) (sym c.in_err-remap.ensures.err) c.requires.kept.bits;
+  bits = subst (λ (g : Graph). AreValidBitsOf g.types c.args.kept.now.valid_bits) (sym c.in_err-remap.ensures.unchanged) c.requires.kept.bits;
 }

@@ -19,7 +19,7 @@ returns-in-Some c = record {
     | inl memory ↦ inl memory
     | inr told ↦ inr (subst (λ (o : Option (List ℕ)). IsImportizeCause c.args.resolve.now.graph c.in-Some.id o c.in-Err.refusal) c.out_name.ensures told)
   ];
-  same = c.in-Err.ensures.err;
+  same = c.in-Err.ensures.unchanged;
 }
 
 pub returns : goal.returns

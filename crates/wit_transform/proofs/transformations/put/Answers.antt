@@ -40,10 +40,10 @@ rename_last-requires-clause-free c =
     let at : slice_get c.args.graph.now.packages c.home_of.result ≡ Some c.at_mut-home.result.now = subst (λ (i : ℕ). slice_get c.args.graph.now.packages i ≡ Some c.at_mut-home.result.now) c.index-2.ensures c.at_mut-home.ensures.value in
     subst (λ (name : List ℕ). NameIsTakenIn c.at_mut-home.result.now c.args.world name → ⊥) (sym c.as_str-2.ensures) (free_at_home c.args.graph.now c.requires.tables c.args.world c.at-current.result.now there c.home_of.result (same ∙ c.home_of.ensures) c.at_mut-home.result.now at c.args.new.name c.requires.free)
 
-pub returns-in_err-rename_last-clause-err : goal.returns-in_err-rename_last-clause-err
-returns-in_err-rename_last-clause-err c =
+pub returns-in_err-rename_last-clause-unchanged : goal.returns-in_err-rename_last-clause-unchanged
+returns-in_err-rename_last-clause-unchanged c =
     on_err c.from_residual.result (ap (λ (packages : List Package). record c.args.graph.now { packages = packages })
-    (ap (slice_set c.args.graph.now.packages c.index-2.result) c.in_err-rename_last.ensures.err ∙ set_same c.args.graph.now.packages c.index-2.result c.at_mut-home.result.now c.at_mut-home.ensures.value))
+    (ap (slice_set c.args.graph.now.packages c.index-2.result) c.in_err-rename_last.ensures.unchanged ∙ set_same c.args.graph.now.packages c.index-2.result c.at_mut-home.result.now c.at_mut-home.ensures.value))
 
 pub set-requires : goal.set-requires
 set-requires c =

@@ -6,5 +6,6 @@ abbrev pub invariant-loop-index : goal.invariant-loop-index
 invariant-loop-index l = record {
   same : l.self-inside.order ≡ l.initial.self-inside.order;
   nodes : l.self-inside.nodes ≡ l.initial.self-inside.nodes;
-  marks_are_of : MarksAreOf l.self-inside.nodes l.self-inside.marks.items (drop l.index l.self-inside.order);
+  marks_are_of : MarksAreOf l.self-inside.nodes l.self-inside.marks.items
+      (drop l.index l.self-inside.order);
 }

@@ -72,7 +72,7 @@ loop-frame-preserved-in-Continue-branch-4 c =
 
 pub returns-in_err-push-3-clause-uses_first : goal.returns-in_err-push-3-clause-uses_first
 returns-in_err-push-3-clause-uses_first c =
-    rw c.in_err-push-3.ensures.err (IsWalking-uses_first _ _ _ _ c.loop-frame.invariant.walking)
+    rw c.in_err-push-3.ensures.unchanged (IsWalking-uses_first _ _ _ _ c.loop-frame.invariant.walking)
 
 pub loop-frame-smaller : goal.loop-frame-smaller
 loop-frame-smaller c =

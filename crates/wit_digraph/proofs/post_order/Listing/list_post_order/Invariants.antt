@@ -5,7 +5,8 @@ use Rattle.wit_digraph.proofs.post_order.Listing.list_post_order.Given as goal
 
 abbrev pub invariant-loop-frame : goal.invariant-loop-frame
 invariant-loop-frame l = record {
-  walking : IsWalking l.uses (l.fn.self.order ++ fresh l.fn.self.order (post_order l.uses l.root)) l.self.order l.stack.items;
+  walking : IsWalking l.uses (l.fn.self.order ++ fresh l.fn.self.order (post_order l.uses l.root))
+      l.self.order l.stack.items;
   nodes : l.self.nodes ≡ length l.uses;
 }
 

@@ -5,4 +5,7 @@ use Rattle.wit_elaboration.proofs.closure_rows.ClosureRows.may_conflict.Given as
 
 -- those that may need any are left
 abbrev pub invariant-loop-item : goal.invariant-loop-item
-invariant-loop-item l = (e : Entry) → Contains l.exports e → EntryMayNeed l.uses l.self.rows l.exported.order l.columns.items e → Contains l.item-iterator e
+invariant-loop-item l =
+    (e : Entry) → Contains l.exports e
+    → EntryMayNeed l.uses l.self.rows l.exported.order l.columns.items e
+    → Contains l.item-iterator e

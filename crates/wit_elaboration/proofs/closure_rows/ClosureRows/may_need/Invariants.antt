@@ -5,4 +5,6 @@ use Rattle.wit_elaboration.proofs.closure_rows.ClosureRows.may_need.Given as goa
 
 -- none so far
 abbrev pub invariant-loop-used : goal.invariant-loop-used
-invariant-loop-used l = (d : ℕ) → Contains (take l.used-index l.used-items) d → ((Contains l.exported.order d → ⊥) × HaveCommonBit (direct l.self.rows d) l.columns) → ⊥
+invariant-loop-used l =
+    (d : ℕ) → Contains (take l.used-index l.used-items) d
+    → ((Contains l.exported.order d → ⊥) × HaveCommonBit (direct l.self.rows d) l.columns) → ⊥

@@ -7,4 +7,6 @@ use Rattle.wit_graph_data.proofs.error_kind.KnownPackagesDisplay.fmt.Given as go
 -- the lines so far
 abbrev pub invariant-loop-name : goal.invariant-loop-name
 invariant-loop-name g l =
-    IsPlainFormatter l.initial.f → HasWritten g.W.Write.write_str_gives l.initial.f (flat_map known_line (take l.name-index l.name-items)) l.f
+    IsPlainFormatter l.initial.f
+    → HasWritten g.W.Write.write_str_gives l.initial.f
+    (flat_map known_line (take l.name-index l.name-items)) l.f

@@ -16,4 +16,4 @@ returns-clause-refuses g c = rw (← c.self.view_is) c.exportize_with.ensures.re
 pub invariant_of-self : goal.invariant_of-self
 invariant_of-self g c =
     kept_after c.self.inside.graph c.exportize_with.new.graph c.self.inside.kept c.exportize_with.new.elaborator c.exportize_with.ensures.same c.self.invariant c.exportize_with.ensures.valid c.exportize_with.result c.exportize_with.ensures.ok
-    (λ is. subst (λ (h : Graph). LeavesTypes c.self.inside.graph h) (sym is.is_transformed) (transformed_leaves c.self.inside.graph c.args.world (exportized is.answers (option_map string_bytes c.args.out)))) c.exportize_with.ensures.err
+    (λ is. subst (λ (h : Graph). LeavesTypes c.self.inside.graph h) (sym is.is_transformed) (transformed_leaves c.self.inside.graph c.args.world (exportized is.answers (option_map string_bytes c.args.out)))) c.exportize_with.ensures.unchanged

@@ -12,4 +12,4 @@ returns-clause-refuses c = rw (← c.self.view_is) c.exportize_answered_with.ens
 pub invariant_of-self : goal.invariant_of-self
 invariant_of-self c =
     kept_transformed c.self.inside.graph c.exportize_answered_with.new.graph c.self.inside.kept c.exportize_answered_with.new.elaborator c.exportize_answered_with.ensures.same c.self.invariant c.exportize_answered_with.ensures.valid
-    c.exportize_answered_with.result c.args.world (exportized c.args.answers.now (option_map string_bytes c.args.out)) c.exportize_answered_with.ensures.ok c.exportize_answered_with.ensures.err
+    c.exportize_answered_with.result c.args.world (exportized c.args.answers.now (option_map string_bytes c.args.out)) c.exportize_answered_with.ensures.ok c.exportize_answered_with.ensures.unchanged

@@ -4,5 +4,5 @@ use Rattle.wit_resolve_graph.proofs.resolve.Resolve.id_of.Goals as goal
 pub returns-clause-text : goal.returns-clause-text
 returns-clause-text c = search rules
 
-pub returns-clause-err : goal.returns-clause-err
-returns-clause-err c = search rules
+pub returns-clause-memory : goal.returns-clause-memory
+returns-clause-memory c = search rules

@@ -12,4 +12,4 @@ returns-clause-refuses c = rw (← c.self.view_is) c.importize_with.ensures.refu
 pub invariant_of-self : goal.invariant_of-self
 invariant_of-self c =
     kept_transformed c.self.inside.graph c.importize_with.new.graph c.self.inside.kept c.importize_with.new.elaborator c.importize_with.ensures.same c.self.invariant c.importize_with.ensures.valid c.importize_with.result c.args.world
-    (importized (option_map string_bytes c.args.out)) c.importize_with.ensures.ok c.importize_with.ensures.err
+    (importized (option_map string_bytes c.args.out)) c.importize_with.ensures.ok c.importize_with.ensures.unchanged

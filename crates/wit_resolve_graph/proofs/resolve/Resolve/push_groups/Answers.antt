@@ -28,19 +28,19 @@ returns-clause-ok c =
           c.in_ok-packages.ensures.fits (ap (λ (s : State). s.features) w.self-is) (ap (λ (s : State). s.track_rule) w.self-is) (ap (λ (s : State). s.source_map) w.self-is ∙ c.in_ok-packages.ensures.files) (added_to c.add_packages-pushed.result old.features old.graph c.in_ok-packages.packages c.in_ok-name.name (sym (ap (λ (s : State). s.graph) w.self-is)) c.add_packages-pushed.ensures.ok)
     ])
 
-pub returns-clause-err : goal.returns-clause-err
-returns-clause-err c =
+pub returns-clause-cause : goal.returns-clause-cause
+returns-clause-cause c =
     let old : State = record { graph = c.self.inside.graph; features = c.self.inside.features; source_map = c.self.inside.source_map; track_rule = c.self.inside.track_rule } in
     rw (← c.self.view_is) (elim c.if-is_offset_overflow.branch [
       | then-is_offset_overflow w ↦
           takes_back old c.args.main c.args.deps c.in_ok-packages.packages c.in_ok-packages.ensures.ok c.in_ok-name.name c.in_ok-name.ensures c.if-is_offset_overflow.self c.add_packages-pushed.result
-          (c.is_offset_overflow.ensures.0 w.if-is_offset_overflow.true) (same_after old.graph c.add_packages-pushed.new.graph c.if-is_offset_overflow.self.graph c.add_packages-pushed.result (ap (λ (s : State). s.graph) w.self-is) c.add_packages-pushed.ensures.err) (ap (λ (s : State). s.features) w.self-is) (ap (λ (s : State). s.track_rule) w.self-is)
+          (c.is_offset_overflow.ensures.0 w.if-is_offset_overflow.true) (same_after old.graph c.add_packages-pushed.new.graph c.if-is_offset_overflow.self.graph c.add_packages-pushed.result (ap (λ (s : State). s.graph) w.self-is) c.add_packages-pushed.ensures.unchanged) (ap (λ (s : State). s.features) w.self-is) (ap (λ (s : State). s.track_rule) w.self-is)
           (ap (λ (s : State). s.source_map) w.self-is ∙ w.truncate.ensures
           ∙ files_before c.self.inside.source_map c.place_groups.new.source_map (c.args.main ∷ c.args.deps) c.in_ok-packages.ensures.files c.len-files.result c.end-end.result c.len-files.ensures c.end-end.ensures.value)
           c.add_packages-pushed.ensures.cause
       | else-is_offset_overflow w ↦
           refuses old c.args.main c.args.deps c.in_ok-packages.packages c.in_ok-packages.ensures.ok c.in_ok-name.name c.in_ok-name.ensures c.if-is_offset_overflow.self c.add_packages-pushed.result
-          c.in_ok-packages.ensures.fits (λ far. false≢true (sym w.if-is_offset_overflow.false ∙ c.is_offset_overflow.ensures.1 far)) (same_after old.graph c.add_packages-pushed.new.graph c.if-is_offset_overflow.self.graph c.add_packages-pushed.result (ap (λ (s : State). s.graph) w.self-is) c.add_packages-pushed.ensures.err) (ap (λ (s : State). s.features) w.self-is) (ap (λ (s : State). s.track_rule) w.self-is)
+          c.in_ok-packages.ensures.fits (λ far. false≢true (sym w.if-is_offset_overflow.false ∙ c.is_offset_overflow.ensures.1 far)) (same_after old.graph c.add_packages-pushed.new.graph c.if-is_offset_overflow.self.graph c.add_packages-pushed.result (ap (λ (s : State). s.graph) w.self-is) c.add_packages-pushed.ensures.unchanged) (ap (λ (s : State). s.features) w.self-is) (ap (λ (s : State). s.track_rule) w.self-is)
           (ap (λ (s : State). s.source_map) w.self-is ∙ c.in_ok-packages.ensures.files) c.add_packages-pushed.ensures.cause
     ])
 

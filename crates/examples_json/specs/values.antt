@@ -1,0 +1,12 @@
+pub mod Gates
+pub mod Types
+pub mod Functions
+pub mod Worlds
+pub mod Graphs
+pub mod Details
+pub mod Refusals
+pub mod ReadValues
+pub mod ReadTypes
+pub mod ReadWorlds
+pub mod ReadGraphs
+pub mod ReadCommands

@@ -1,5 +1,0 @@
-use Rattle.examples_merge.proofs.SemverRows.{examples_of_semver_merges}
-use Rattle.examples_merge.proofs.semver_merges.examples_of_semver_merges.Goals as goal
-
-pub returns : goal.returns
-returns c = examples_of_semver_merges

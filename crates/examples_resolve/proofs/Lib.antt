@@ -1,0 +1,3 @@
+mod OfGraphs
+mod OfMerges
+mod OfScripts

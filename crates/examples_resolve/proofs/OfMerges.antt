@@ -1,0 +1,17 @@
+pub mod Accepted
+pub mod Computed
+pub mod CopiesStay
+pub mod KeysAre
+pub mod Mismatches
+pub mod NamesAre
+pub mod Pairs
+pub mod Passing
+pub mod Refused
+pub mod SemverAccepted
+pub mod SemverFine
+pub mod SemverMismatches
+pub mod SemverReasons
+pub mod SemverRows
+pub mod SemverTwoReasons
+pub mod Stabilities
+pub mod TwoReasons

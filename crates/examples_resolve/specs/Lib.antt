@@ -1,0 +1,3 @@
+pub mod graph
+pub mod merge
+pub mod script

@@ -1,5 +1,0 @@
-use Rattle.std.proofs.Common.{rules}
-use Rattle.test_sweep_layers.proofs.layers.with_another.Goals as goal
-
-pub returns : goal.returns
-returns c = (c.new.result, search rules)
