@@ -23,7 +23,7 @@ status 1.
 Documents. Every eighth script that has a document (`check/script_documents.py`) is given to `witgraph_json` as that; of every
 sixteenth the second half, too, in a document that begins with the graph of the first. In the round of number N the Nth
 request of the whole run is refused. One command is answered by 28, and the others and the graph are as where that command
-isn't there; or nothing is written, with status 1.
+isn't there; or nothing is written, with status 1, and standard error says why. Else no program writes anything there.
 
 `--planted` plants the wrong bodies of `check/planted` in a copy of the repository and ends with status 1 where the
 sweep of the calls doesn't tell one of them. No proof lets them pass, so `BUILD FOLDER OUT` is a command that builds the
@@ -65,37 +65,41 @@ def cases_of(path):
 
 
 class Program:
-    """A program that is run under `check/refuse.c`."""
+    """A program that is run under `check/refuse.c`, and what it says on standard error where it writes nothing."""
 
-    def __init__(self, path, shim):
-        self.path, self.shim = path, shim
+    def __init__(self, path, shim, reason=""):
+        self.path, self.shim, self.reason = path, shim, reason
 
     def run(self, given, **refusing):
         reading, writing = os.pipe()
         env = {"LD_PRELOAD": self.shim, "SWEEP_FD": str(writing)}
         env.update((f"SWEEP_{name.upper()}", str(value)) for name, value in refusing.items())
         try:
-            done = subprocess.run([self.path], input=given.encode(), stdout=subprocess.PIPE, stderr=subprocess.STDOUT,
-                                  env=env, pass_fds=[writing], timeout=60)
+            done = subprocess.run([self.path], input=given.encode(), capture_output=True, env=env, pass_fds=[writing],
+                                  timeout=60)
         finally:
             os.close(writing)
         with os.fdopen(reading) as told:
             counts = [tuple(map(int, line.split())) for line in told]
-        return Ran(done.returncode, done.stdout.decode(), counts)
+        said = done.stderr.decode()
+        is_silent = said == (self.reason if (done.returncode, done.stdout) == (1, b"") else "")
+        return Ran(done.returncode, done.stdout.decode(), None if is_silent else said, counts)
 
 
 class Ran:
-    """A run: its status, what it printed, of each call how many requests it made and how many were refused, and the same
-    of the whole with the blocks that weren't freed."""
+    """A run: its status, what it printed, what it shouldn't have said on standard error, of each call how many requests it
+    made and how many were refused, and the same of the whole with the blocks that weren't freed."""
 
-    def __init__(self, status, out, counts):
-        self.status, self.out = status, out
+    def __init__(self, status, out, said, counts):
+        self.status, self.out, self.said = status, out, said
         *self.counts, self.whole = counts or [(0, 0, 0)]
 
     def faults(self):
         """What is wrong whatever is refused."""
         if self.status not in (0, 1):
             yield f"status {self.status}"
+        elif self.said is not None:
+            yield f"standard error: {self.said!r}"
         elif len(self.whole) != 3 or self.whole[2]:
             yield f"blocks that aren't freed: {self.whole[2:]}"
 
@@ -390,13 +394,13 @@ class Sweep:
             sys.exit("sweep: no cc, gcc or clang is here to compile check/refuse.c")
         subprocess.run([compiler, "-O2", "-shared", "-fPIC", "-o", self.shim, f"{CHECK}/refuse.c"], check=True)
 
-    def program(self, path):
+    def program(self, path, reason=""):
         """A copy that may be run: `rt ci` leaves programs without leave."""
         if not os.path.isfile(path):
             sys.exit(f"sweep: {path} isn't there: run rt ci first")
         copy = shutil.copyfile(path, f"{self.folder}/copy-of-{os.path.basename(path)}")
         os.chmod(copy, 0o755)
-        return Program(copy, self.shim)
+        return Program(copy, self.shim, reason)
 
     def add(self, name, made):
         """The rounds of one case or script."""
@@ -422,7 +426,7 @@ class Sweep:
         self.tell(f"{len(scripts)} scripts more")
 
     def documents(self, path):
-        program, scripts = self.program(path), cases_of(f"{TOP}/crates/test_cases/stdin")
+        program, scripts = self.program(path, "witgraph_json: out of memory\n"), cases_of(f"{TOP}/crates/test_cases/stdin")
         made = {name: documents.document_of(case.partition("---\n")[0]) for name, case in scripts.items()}
         chosen = [name for name, document in made.items() if document][::8]
         for name in chosen:
