@@ -6,6 +6,7 @@ use Rattle.std.proofs.lemmas.List.{append-nil}
 use Rattle.wit_names.specs.declared.package_name.PackageName.{PackageName}
 use Rattle.wit_graph_data.specs.declared.error_kind.ResolveErrorKind.{ResolveErrorKind}
 use Rattle.wit_graph_data.specs.Named.{package_named}
+use Rattle.wit_resolve_graph.specs.declared.command.Reply.{Reply}
 use Rattle.wit_script_lines.specs.declared.request.Request.{Request}
 use Rattle.wit_script.specs.Answer.{IsChoice}
 use Rattle.wit_script.specs.Script.{IsNotUnderstood, IsUnderstood}
@@ -33,24 +34,26 @@ rest_after-more places (first ∷ commands) command = rest_after-more (rest_of p
 
 module _ (script : ScriptLines) where
   -- one more command
-  pub ExplainsAll-more : (places : List CommandPlace) (before between after : Desk) (commands : List Request) (command : Request) (text more : List ℕ)
-      → ExplainsAll script places before commands text between → ExplainsCommand script (place_of script (rest_after places commands)) between command more after
+  pub ExplainsAll-more : (places : List CommandPlace) (before between after : Desk) (commands : List Request) (command : Request) (reply : Option Reply) (text more : List ℕ)
+      → ExplainsAll script places before commands text between → ExplainsCommand script (place_of script (rest_after places commands)) between command reply more after
       → ExplainsAll script places before (commands ++ command ∷ []) (text ++ more) after
-  ExplainsAll-more places before between after [] command text more all one = (
+  ExplainsAll-more places before between after [] command reply text more all one = (
     after,
+    reply,
     more,
     [],
-    subst (λ (s : Desk). ExplainsCommand script (place_of script places) s command more after) all.1 one,
+    subst (λ (s : Desk). ExplainsCommand script (place_of script places) s command reply more after) all.1 one,
     (refl, refl),
     ap (λ (t : List ℕ). t ++ more) all.0 ∙ sym (append-nil more),
   )
-  ExplainsAll-more places before between after (first ∷ commands) command text more all one = (
+  ExplainsAll-more places before between after (first ∷ commands) command reply text more all one = (
     all.0,
     all.1,
-    all.2 ++ more,
-    all.3,
-    ExplainsAll-more (rest_of places) all.0 between after commands command all.2 more all.4 one,
-    ap (λ (t : List ℕ). t ++ more) all.5 ∙ append_assoc all.1 all.2 more,
+    all.2,
+    all.3 ++ more,
+    all.4,
+    ExplainsAll-more (rest_of places) all.0 between after commands command reply all.3 more all.5 one,
+    ap (λ (t : List ℕ). t ++ more) all.6 ∙ append_assoc all.2 all.3 more,
   )
 
   -- a choice that is refused, of a package that is there

@@ -27,31 +27,34 @@ use Rattle.wit_script_places.specs.declared.lines.ScriptLines.{ScriptLines}
 use Rattle.wit_ways.specs.Asked.{asked_of}
 use Rattle.wit_ways.specs.declared.asked.Asked.TheVariants.{Other}
 
--- a command whose files, where it brings any, begin with these lines, and the packages that it brings with those; and what
--- is told of its reply
+-- a command whose files, where it brings any, begin with these lines, and the packages that it brings with those; its reply,
+-- and what is told of that
 abbrev pub ExplainsReply : ScriptLines → CommandPlace → TrackedGraph → Command → List ℕ → List ℕ
-    → List ℕ → TrackedGraph → Type 0
-ExplainsReply script place before command coming brought text after =
-    (answer : Reply) × (new : State) × Step before.resolve command answer new
+    → Option Reply → List ℕ → TrackedGraph → Type 0
+ExplainsReply script place before command coming brought reply text after =
+    (answer : Reply) × (new : State) × (reply ≡ Some answer)
+    × Step before.resolve command answer new
     × (after ≡ tracked_after before new coming (unless_refused answer brought))
     × TellsReply script place after (asked_of before.resolve command) answer text
 
 -- a change of the graph on which commands work
-abbrev pub ExplainsChange : ScriptLines → CommandPlace → Desk → Change → List ℕ → Desk → Type 0
-ExplainsChange script place before change text after =
+abbrev pub ExplainsChange : ScriptLines → CommandPlace → Desk → Change → Option Reply → List ℕ
+    → Desk → Type 0
+ExplainsChange script place before change reply text after =
     let coming = coming_packages script place in
     (new : TrackedGraph)
-    × ExplainsReply script place (working before) (command_of change) coming coming text new
+    × ExplainsReply script place (working before) (command_of change) coming coming reply text new
     × (after ≡ with_working before new)
 
 -- `merge`: the second graph goes into the first, and is no longer there
-abbrev pub ExplainsMerge : ScriptLines → CommandPlace → Desk → Option TrackedGraph → List ℕ → Desk
-    → Type 0
-ExplainsMerge script place before None text after = (text ≡ []) × (after ≡ before)
-ExplainsMerge script place before (Some second) text after =
+abbrev pub ExplainsMerge : ScriptLines → CommandPlace → Desk → Option TrackedGraph → Option Reply
+    → List ℕ → Desk → Type 0
+ExplainsMerge script place before None reply text after =
+    (reply ≡ None) × (text ≡ []) × (after ≡ before)
+ExplainsMerge script place before (Some second) reply text after =
     (new : TrackedGraph)
     × ExplainsReply script place before.first (Merge second.resolve)
-    second.file_starts second.package_starts text new
+    second.file_starts second.package_starts reply text new
     × (after ≡ only_first new)
 
 -- what is told of a choice of a world
@@ -75,18 +78,22 @@ ExplainsSelect script place tracked owner said text =
     (λ id. (choice : Result ℕ ResolveErrorKind) × IsChoice tracked.resolve.graph id said choice
     × TellsChoice script place tracked choice text)
 
--- what is told of a command, and the desk after it
-abbrev pub ExplainsCommand : ScriptLines → CommandPlace → Desk → Request → List ℕ → Desk → Type 0
-ExplainsCommand script place before (request.Change change) text after =
-    ExplainsChange script place before change text after
-ExplainsCommand script place before request.Other text after =
-    (text ≡ []) × (after ≡ record { first = before.first; second = Some new_tracked })
-ExplainsCommand script place before request.Merge text after =
-    ExplainsMerge script place before before.second text after
-ExplainsCommand script place before (request.Print owner world) text after =
-    (text ≡ print_text script place (working before) owner world) × (after ≡ before)
-ExplainsCommand script place before (request.Select owner said) text after =
-    (after ≡ before) × ExplainsSelect script place (working before) owner said text
+-- the reply to a command that changes a graph, what is told of a command, and the desk after it
+abbrev pub ExplainsCommand : ScriptLines → CommandPlace → Desk → Request → Option Reply → List ℕ
+    → Desk → Type 0
+ExplainsCommand script place before (request.Change change) reply text after =
+    ExplainsChange script place before change reply text after
+ExplainsCommand script place before request.Other reply text after =
+    (reply ≡ None) × (text ≡ [])
+    × (after ≡ record { first = before.first; second = Some new_tracked })
+ExplainsCommand script place before request.Merge reply text after =
+    ExplainsMerge script place before before.second reply text after
+ExplainsCommand script place before (request.Print owner world) reply text after =
+    (reply ≡ None) × (text ≡ print_text script place (working before) owner world)
+    × (after ≡ before)
+ExplainsCommand script place before (request.Select owner said) reply text after =
+    (reply ≡ None) × (after ≡ before)
+    × ExplainsSelect script place (working before) owner said text
 
 -- the first of some commands; where there is none, one behind all lines
 abbrev pub place_of : ScriptLines → List CommandPlace → CommandPlace
@@ -104,8 +111,8 @@ abbrev pub ExplainsAll : ScriptLines → List CommandPlace → Desk → List Req
     → Type 0
 ExplainsAll script places before [] text after = (text ≡ []) × (after ≡ before)
 ExplainsAll script places before (command ∷ commands) text after =
-    (between : Desk) × (first : List ℕ) × (rest : List ℕ)
-    × ExplainsCommand script (place_of script places) before command first between
+    (between : Desk) × (reply : Option Reply) × (first : List ℕ) × (rest : List ℕ)
+    × ExplainsCommand script (place_of script places) before command reply first between
     × ExplainsAll script (rest_of places) between commands rest after × (text ≡ first ++ rest)
 
 -- what is told of a script that is understood: the refusals of its commands on an empty graph, and what isn't there

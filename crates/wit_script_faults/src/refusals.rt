@@ -10,6 +10,7 @@ ghost use Rattle.wit_script_places.specs.declared.desk.Desk.{Desk};
 
 use crate::culprit::fault_index;
 use crate::misread::misread_text;
+use crate::outcome::Outcome;
 use std::alloc::{AllocError, Global};
 use wit_data::Span;
 use wit_resolve_graph::{
@@ -39,8 +40,9 @@ pub fn explain_text(alloc: Global, script: &str) -> Result<(bool, String), Alloc
     }
 }
 
-/// What there is to say of a script that isn't understood, where the line of this number isn't.
-fn misread(alloc: Global, script: &ScriptLines, number: usize) -> Result<String, AllocError>
+/// What there is to say of a script that isn't understood, where the line of this number isn't. The only error is want of
+/// memory.
+pub fn misread(alloc: Global, script: &ScriptLines, number: usize) -> Result<String, AllocError>
     ensures { IfOk result (λ text. IsMisreadText script.now number (string_bytes text)) }
 {
     let index = fault_index(alloc, script, number)?;
@@ -48,7 +50,7 @@ fn misread(alloc: Global, script: &ScriptLines, number: usize) -> Result<String,
 }
 
 /// The first of some commands and those after it; where there is none, one behind all lines.
-fn next_place<'a>(
+pub fn next_place<'a>(
     script: &ScriptLines,
     places: &'a [CommandPlace],
 ) -> (CommandPlace, &'a [CommandPlace])
@@ -84,51 +86,56 @@ fn refusals_to(
     let mut places = script.commands.as_slice();
     for command in commands.into_vec() {
         let (place, rest) = next_place(script, places);
-        let text = refusal_to(alloc, script, &place, &mut desk, command)?;
-        all.push_str(&text)?;
+        let outcome = explain_command(alloc, script, &place, &mut desk, command)?;
+        all.push_str(&outcome.text)?;
         places = rest;
     }
     Ok(all)
 }
 
-/// The refusal of a command, if it is refused.
-fn refusal_to(
+/// Carries out a command of a script, which stands at this place, on its graphs. Want of memory in the command is an
+/// outcome; elsewhere it is the only refusal.
+pub fn explain_command(
     alloc: Global,
     script: &ScriptLines,
     place: &CommandPlace,
     desk: &mut Desk,
     command: ReadyCommand,
-) -> ResolveResult<String>
-    ensures { IfOk result (λ text.
-        ExplainsCommand script.now place.now desk.old command (string_bytes text) desk.new) }
+) -> ResolveResult<Outcome>
+    ensures { IfOk result (λ outcome.
+        ExplainsCommand script.now place.now desk.old command outcome.reply
+        (string_bytes outcome.text) desk.new) }
 {
     match command.into_request() {
         Request::Change(change) => change_graph(alloc, script, place, desk, change),
         Request::Other => {
             desk.second = Some(TrackedGraph::new(alloc));
-            Ok(String::new(alloc))
+            Ok(Outcome::told(String::new(alloc)))
         }
         Request::Merge => merge(alloc, script, place, desk),
         Request::Print { package, world } => {
-            print(alloc, script, place, desk.working(), &package, &world)
+            let text = print(alloc, script, place, desk.working(), &package, &world)?;
+            Ok(Outcome::told(text))
         }
         Request::Select { package, text } => {
-            select(alloc, script, place, desk.working(), &package, &text)
+            let text = select(alloc, script, place, desk.working(), &package, &text)?;
+            Ok(Outcome::told(text))
         }
     }
 }
 
-/// Changes the graph on which commands work, and answers the refusal, or an empty text.
+/// Changes the graph on which commands work.
 fn change_graph(
     alloc: Global,
     script: &ScriptLines,
     place: &CommandPlace,
     desk: &mut Desk,
     change: Change,
-) -> ResolveResult<String>
+) -> ResolveResult<Outcome>
     requires { IsCommandShaped (command_of change) }
-    ensures { IfOk result (λ text.
-        ExplainsChange script.now place.now desk.old change (string_bytes text) desk.new) }
+    ensures { IfOk result (λ outcome.
+        ExplainsChange script.now place.now desk.old change outcome.reply
+        (string_bytes outcome.text) desk.new) }
 {
     let command = command_of(change);
     let coming = coming_packages(script, place);
@@ -152,13 +159,13 @@ fn merge(
     script: &ScriptLines,
     place: &CommandPlace,
     desk: &mut Desk,
-) -> ResolveResult<String>
-    ensures { IfOk result (λ text.
-        ExplainsMerge script.now place.now desk.old desk.old.second (string_bytes text)
-        desk.new) }
+) -> ResolveResult<Outcome>
+    ensures { IfOk result (λ outcome.
+        ExplainsMerge script.now place.now desk.old desk.old.second outcome.reply
+        (string_bytes outcome.text) desk.new) }
 {
     let Some(second) = desk.second.take() else {
-        return Ok(String::new(alloc));
+        return Ok(Outcome::told(String::new(alloc)));
     };
     let TrackedGraph {
         resolve,
@@ -178,8 +185,7 @@ fn merge(
     )
 }
 
-/// Carries out a command, and answers its refusal, or an empty text. The files that come begin with these lines, and the
-/// packages that come with those.
+/// Carries out a command on a graph. The files that come begin with these lines, and the packages that come with those.
 fn explain_reply(
     alloc: Global,
     script: &ScriptLines,
@@ -188,16 +194,20 @@ fn explain_reply(
     command: Command,
     coming: &[usize],
     brought: &[usize],
-) -> ResolveResult<String>
+) -> ResolveResult<Outcome>
     requires { IsCommandShaped command }
-    ensures { IfOk result (λ text.
+    ensures { IfOk result (λ outcome.
         ExplainsReply script.now place.now tracked.old command coming.now brought.now
-        (string_bytes text) tracked.new) }
+        outcome.reply (string_bytes outcome.text) tracked.new) }
 {
     let asked = Asked::of(alloc, &tracked.resolve, &command)?;
     let reply = carry_out(alloc, &mut tracked.resolve, command);
     tracked.track(coming, unless_refused(&reply, brought))?;
-    reply_text(alloc, script, place, tracked, &asked, &reply)
+    let text = reply_text(alloc, script, place, tracked, &asked, &reply)?;
+    Ok(Outcome {
+        reply: Some(reply),
+        text,
+    })
 }
 
 /// These, unless a reply is a refusal.

@@ -4,17 +4,17 @@ use Rattle.std.proofs.Math.Seq.{drop-cons}
 use Rattle.std.proofs.lemmas.List.Sums.{fold-append}
 use Rattle.std.specs.List.{enumerate_from, flat_map}
 use Rattle.std.specs.Option.{option_map_or}
-use Rattle.witgraph_dot.specs.Listed.{with_all_imports, with_import, with_imports}
+use Rattle.witgraph_dot.specs.Listed.{with_all_imports, and_import, and_imports}
 use Rattle.witgraph_dot.specs.Pushed.{imports_for, repeated}
 use Rattle.witgraph_dot.specs.declared.listing.Import.{Import}
 use Rattle.witgraph_dot.specs.declared.listing.Include.{Include}
 
 -- what lines list for one world is added as interfaces of that world
-for-one : (imports : List Import) (interfaces : List ℕ) (w : ℕ) → with_all_imports imports (imports_for interfaces w) ≡ with_imports imports w interfaces
+for-one : (imports : List Import) (interfaces : List ℕ) (w : ℕ) → with_all_imports imports (imports_for interfaces w) ≡ and_imports imports w interfaces
 for-one imports [] w = refl
-for-one imports (i ∷ is) w = for-one (with_import imports w i) is w
+for-one imports (i ∷ is) w = for-one (and_import imports w i) is w
 
-pub world-listed : {X E : Type 0} (told : Result X E) (imports after : List Import) (interfaces : List ℕ) (found : Option ℕ) (w : ℕ) → found ≡ Some w → after ≡ with_imports imports w interfaces
+pub world-listed : {X E : Type 0} (told : Result X E) (imports after : List Import) (interfaces : List ℕ) (found : Option ℕ) (w : ℕ) → found ≡ Some w → after ≡ and_imports imports w interfaces
     → OnOk told (after ≡ with_all_imports imports (option_map_or (imports_for interfaces) found []))
 world-listed (Ok x) imports after interfaces found w is listed =
     listed ∙ (sym (for-one imports interfaces w) ∙ ap (λ (o : Option ℕ). with_all_imports imports (option_map_or (imports_for interfaces) o [])) (sym is))

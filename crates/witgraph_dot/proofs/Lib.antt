@@ -1,5 +1,4 @@
 mod Appended
-mod Changed
 mod Gathered
 mod Staged
 mod Viewed

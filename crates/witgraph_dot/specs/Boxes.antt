@@ -8,7 +8,7 @@ use Rattle.wit_data.specs.declared.world.WorldKey.{WorldKey}
 use Rattle.wit_data.specs.declared.world.WorldKey.TheVariants as key
 use Rattle.wit_graph_data.specs.declared.graph.Package.{Package}
 use Rattle.wit_names.specs.declared.package_name.PackageName.{PackageName}
-use Rattle.witgraph_dot.specs.Sets.{is_among}
+use Rattle.witgraph_dot.specs.Sets.{is_one_of}
 use Rattle.witgraph_dot.specs.Texts.{quoted_name, quoted_text}
 
 -- the name of package p
@@ -24,7 +24,7 @@ interface_box i name =
 -- the interfaces of a package that are shown
 abbrev pub interface_boxes : List ℕ → Package → List ℕ
 interface_boxes shown «package» =
-    flat_map (λ (e : List ℕ × ℕ). if is_among shown e.1 then interface_box e.1 e.0 else [])
+    flat_map (λ (e : List ℕ × ℕ). if is_one_of shown e.1 then interface_box e.1 e.0 else [])
     «package».interfaces
 
 -- the line of an entry below the name of its world: of a function or a type under a label
@@ -36,8 +36,8 @@ line_of_entry word (key.Name label) (item.Function function) =
 line_of_entry word (key.Name label) (item.Type_ id span) =
     codes "\\n" ++ (word ++ (codes " type " ++ quoted_text label))
 
-abbrev pub entry_line : List ℕ → Entry → List ℕ
-entry_line word e = line_of_entry word e.0 e.1
+abbrev pub box_line : List ℕ → Entry → List ℕ
+box_line word e = line_of_entry word e.0 e.1
 
 -- the beginning of world w, with its name
 abbrev pub world_head : ℕ → List ℕ → List ℕ
@@ -51,5 +51,5 @@ world_head w name =
 abbrev pub world_box : ℕ → World → List ℕ
 world_box w world =
     world_head w world.name
-    ++ (flat_map (entry_line (codes "import")) world.imports
-    ++ (flat_map (entry_line (codes "export")) world.exports ++ codes "\"];\n"))
+    ++ (flat_map (box_line (codes "import")) world.imports
+    ++ (flat_map (box_line (codes "export")) world.exports ++ codes "\"];\n"))

@@ -1,7 +1,7 @@
 -- Arrows that lead to the same frame as one.
 use Rattle.std.specs.Prelude.{◌&&◌, ℕ, Bool, List, [], ◌++◌, filter, flat_map, if◌then◌else◌, length, map, nat_lt}
 use Rattle.wit_graph_data.specs.declared.graph.Package.{Package}
-use Rattle.witgraph_dot.specs.Sets.{are_among, is_among, without}
+use Rattle.witgraph_dot.specs.Sets.{are_among, is_one_of, without}
 use Rattle.witgraph_dot.specs.Shown.{indices_from}
 use Rattle.witgraph_dot.specs.declared.arrow.Arrow.{Arrow}
 use Rattle.witgraph_dot.specs.declared.arrow.ArrowKind.{ArrowKind}
@@ -10,7 +10,7 @@ use Rattle.witgraph_dot.specs.declared.arrow.Target.TheVariants as target
 -- the interfaces of a package that are shown, in the order of its table
 abbrev pub frame_of : List ℕ → Package → List ℕ
 frame_of shown «package» =
-    filter (is_among shown) (map (λ (e : List ℕ × ℕ). e.1) «package».interfaces)
+    filter (is_one_of shown) (map (λ (e : List ℕ × ℕ). e.1) «package».interfaces)
 
 -- the frame of each package
 abbrev pub frames_of : List ℕ → List Package → List (List ℕ)
@@ -36,12 +36,12 @@ frame_arrows frames kind targets =
     (indices_from (λ p. is_whole targets) 0 frames)
 
 -- an arrow of a kind to each interface
-abbrev pub interface_arrows : ArrowKind → List ℕ → List Arrow
-interface_arrows kind targets =
+abbrev pub arrows_to_interfaces : ArrowKind → List ℕ → List Arrow
+arrows_to_interfaces kind targets =
     map (λ i. record { kind = kind; target = target.Interface i }) targets
 
 -- the arrows of a kind to some interfaces: one to each frame that is whole, and one to each other interface
 abbrev pub bundle : List (List ℕ) → ArrowKind → List ℕ → List Arrow
 bundle frames kind targets =
     frame_arrows frames kind targets
-    ++ interface_arrows kind (without targets (whole_frames frames targets))
+    ++ arrows_to_interfaces kind (without targets (whole_frames frames targets))

@@ -15,16 +15,16 @@ use Rattle.witgraph_dot.specs.declared.choice.Pick.{Pick}
 -- ---- what a line picks
 
 -- the version of a pick, which stands for each where there is none
-abbrev pub is_version_of : Option Parts → Option Parts → Bool
-is_version_of None version = true
-is_version_of (Some picked) version = option_eq version_eq (Some picked) version
+abbrev pub matches_version : Option Parts → Option Parts → Bool
+matches_version None version = true
+matches_version (Some picked) version = option_eq version_eq (Some picked) version
 
 -- the pick is of this package, or of something in it
 abbrev pub picks_package : Pick → PackageName → Bool
 picks_package pick owner =
     bytes_eq pick.«package».namespace owner.namespace
     && (bytes_eq pick.«package».name owner.name
-    && is_version_of pick.«package».version owner.version)
+    && matches_version pick.«package».version owner.version)
 
 -- the pick is of all in its package, or of this name alone
 abbrev pub picks_name : Pick → List ℕ → Bool
@@ -78,18 +78,18 @@ with_hidden choice text =
     }
 
 -- with what a line chooses
-abbrev pub with_line : Choice → List ℕ → Choice
-with_line choice line =
+abbrev pub and_line : Choice → List ℕ → Choice
+and_line choice line =
     if bytes_eq line (codes "# only-added")
     then record { shown = choice.shown; hidden = choice.hidden; only_added = true }
     else option_map_or (with_shown choice) (after_prefix (codes "# show ") line)
     (option_map_or (with_hidden choice) (after_prefix (codes "# hide ") line) choice)
 
 -- with what lines choose, one after another
-abbrev pub with_lines : Choice → List (List ℕ) → Choice
-with_lines choice [] = choice
-with_lines choice (line ∷ lines) = with_lines (with_line choice line) lines
+abbrev pub and_lines : Choice → List (List ℕ) → Choice
+and_lines choice [] = choice
+and_lines choice (line ∷ lines) = and_lines (and_line choice line) lines
 
 -- the choice of a script of these lines
 abbrev pub choice_of : List (List ℕ) → Choice
-choice_of lines = with_lines all_things lines
+choice_of lines = and_lines all_things lines

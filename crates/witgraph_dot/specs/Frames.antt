@@ -7,11 +7,11 @@ use Rattle.wit_graph_data.specs.declared.graph.Package.{Package}
 use Rattle.wit_names.specs.declared.package_name.PackageName.{PackageName}
 use Rattle.witgraph_dot.specs.Boxes.{interface_boxes, name_box, world_box}
 use Rattle.witgraph_dot.specs.Scene.{View}
-use Rattle.witgraph_dot.specs.Sets.{is_among}
+use Rattle.witgraph_dot.specs.Sets.{is_one_of}
 
 -- a world of a package is shown
 abbrev pub shows_world : List ℕ → Package → Bool
-shows_world worlds «package» = list_any (λ (e : List ℕ × ℕ). is_among worlds e.1) «package».worlds
+shows_world worlds «package» = list_any (λ (e : List ℕ × ℕ). is_one_of worlds e.1) «package».worlds
 
 -- so many interfaces of a package stand in a frame of their own: several, beside a world
 abbrev pub has_inner_frame : List ℕ → Package → ℕ → Bool
@@ -37,7 +37,7 @@ shown_boxes worlds p «package» interfaces =
 -- a world, where it is one of these
 abbrev pub shown_world : List World → List ℕ → ℕ → List ℕ
 shown_world all worlds w =
-    if is_among worlds w then option_map_or (world_box w) (slice_get all w) [] else []
+    if is_one_of worlds w then option_map_or (world_box w) (slice_get all w) [] else []
 
 -- the worlds of a package that are shown
 abbrev pub world_boxes : List World → List ℕ → Package → List ℕ

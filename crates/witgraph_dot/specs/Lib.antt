@@ -1,7 +1,8 @@
 pub mod Boxes
 pub mod Bundles
 pub mod Choice
-pub mod Drawn
+pub mod Effects
+pub mod Entries
 pub mod Frames
 pub mod Labels
 pub mod Lines
@@ -14,5 +15,3 @@ pub mod Sets
 pub mod Shown
 pub mod Texts
 pub mod Tracks
-pub mod Transformed
-pub mod steps

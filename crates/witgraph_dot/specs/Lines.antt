@@ -10,8 +10,8 @@ use Rattle.wit_digraph.specs.PostOrder.{first_of_each}
 use Rattle.wit_graph_data.specs.declared.graph.Package.{Package}
 use Rattle.witgraph_dot.specs.Frames.{has_inner_frame}
 use Rattle.witgraph_dot.specs.Labels.{labelled_interface, labelled_interfaces}
-use Rattle.witgraph_dot.specs.Scene.{View, uses_arrows, world_arrows}
-use Rattle.witgraph_dot.specs.Sets.{is_among}
+use Rattle.witgraph_dot.specs.Scene.{View, uses_arrows, entry_arrows}
+use Rattle.witgraph_dot.specs.Sets.{is_one_of}
 use Rattle.witgraph_dot.specs.Texts.{quoted_text}
 use Rattle.witgraph_dot.specs.declared.arrow.Arrow.{Arrow}
 use Rattle.witgraph_dot.specs.declared.arrow.ArrowKind.{ArrowKind}
@@ -140,7 +140,7 @@ labelled_lines sort w entries i =
 abbrev pub labelled_entries : ArrowKind → List ℕ → ℕ → List Entry → List ℕ
 labelled_entries sort shown w entries =
     flat_map (labelled_lines sort w entries)
-    (first_of_each (filter (is_among shown) (labelled_interfaces entries)))
+    (first_of_each (filter (is_one_of shown) (labelled_interfaces entries)))
 
 abbrev pub labelled_of : List ℕ → ℕ → World → List ℕ
 labelled_of shown w world =
@@ -157,7 +157,7 @@ all_labelled v w =
 
 -- the arrows from world w
 abbrev pub world_lines : View → ℕ → List ℕ
-world_lines v w = flat_map (arrow_line v (codes "w") w) (world_arrows v w) ++ all_labelled v w
+world_lines v w = flat_map (arrow_line v (codes "w") w) (entry_arrows v w) ++ all_labelled v w
 
 -- those from interfaces, and then those from worlds
 abbrev pub arrow_lines : View → List ℕ

@@ -1,114 +1,76 @@
--- What becomes of the graphs of a script, with what lines list.
-use Rattle.std.specs.Prelude.{◌≡◌, Bool, true, false, List, [], ◌∷◌, Option, None, Some, filter_map}
-use Rattle.wit_commands.specs.declared.change.Change.{Change}
+-- What lines list for the worlds of a script's graphs, as its commands are carried out.
+use Rattle.std.specs.Prelude.{◌≡◌, ℕ, Bool, true, false, List, [], ◌∷◌, ◌++◌, Option, None, Some, if◌then◌else◌}
 use Rattle.wit_graph_data.specs.declared.error_kind.ResolveErrorKind.TheVariants.{OutOfMemory}
-use Rattle.wit_resolve_graph.specs.State.{State}
-use Rattle.wit_resolve_graph.specs.Step.{Step, command_of}
-use Rattle.wit_resolve_graph.specs.declared.command.Command.{Command}
-use Rattle.wit_resolve_graph.specs.declared.command.Command.TheVariants.{Merge}
 use Rattle.wit_resolve_graph.specs.declared.command.Reply.{Reply}
 use Rattle.wit_resolve_graph.specs.declared.command.Reply.TheVariants as reply
+use Rattle.wit_script_faults.specs.Explained.{ExplainsCommand, place_of, rest_of}
 use Rattle.wit_script_lines.specs.declared.request.Request.{Request}
-use Rattle.wit_script_lines.specs.declared.request.Request.TheVariants as request
-use Rattle.witgraph_dot.specs.Drawn.{ListedStage, ListedState, new_listed_state, only_listed}
-use Rattle.witgraph_dot.specs.Listed.{moved_import, moved_include, with_all_imports, with_all_includes}
-use Rattle.witgraph_dot.specs.Transformed.{if_done, imports_after, includes_after}
-use Rattle.witgraph_dot.specs.declared.listing.Import.{Import}
-use Rattle.witgraph_dot.specs.declared.listing.Include.{Include}
+use Rattle.wit_script_places.specs.Desk.{new_desk, working}
+use Rattle.wit_script_places.specs.declared.desk.Desk.{Desk}
+use Rattle.wit_script_places.specs.declared.desk.TrackedGraph.{TrackedGraph}
+use Rattle.wit_script_places.specs.declared.lines.CommandPlace.{CommandPlace}
+use Rattle.wit_script_places.specs.declared.lines.ScriptLines.{ScriptLines}
+use Rattle.witgraph_dot.specs.Effects.{request_effect, with_effect}
+use Rattle.witgraph_dot.specs.Listed.{merged_listing, new_listing}
+use Rattle.witgraph_dot.specs.declared.effect.Effect.{Effect}
+use Rattle.witgraph_dot.specs.declared.effect.Effect.TheVariants as effect
+use Rattle.witgraph_dot.specs.declared.listing.Listing.{Listing}
+use Rattle.witgraph_dot.specs.declared.stage.Stage.{Stage}
 
--- by the reply to it a command came to something or to nothing, and didn't want memory
-abbrev pub IsDone : Reply → Bool → Type 0
-IsDone (reply.Refused OutOfMemory) done = ⊥
-IsDone (reply.Refused kind) done = done ≡ false
-IsDone reply.NoWorld done = done ≡ false
-IsDone _ done = done ≡ true
+-- an empty graph, for whose worlds no line lists anything
+abbrev pub new_stage : Stage
+new_stage = record { desk = new_desk; first = new_listing; second = new_listing }
 
--- a command is carried out on a graph, and whether it came to something
-abbrev pub Carries : State → Command → Bool → State → Type 0
-Carries before command done after =
-    (answer : Reply) × Step before command answer after × IsDone answer done
+-- by its reply a command came to something
+abbrev pub came_to_something : Option Reply → Bool
+came_to_something (Some (reply.Refused kind)) = false
+came_to_something (Some reply.NoWorld) = false
+came_to_something (Some _) = true
+came_to_something None = false
 
--- ---- what becomes of a graph, with what lines list
+-- after an effect on the graph on which commands work: the second, where there is one
+abbrev pub with_working_effect : Desk → Effect → Option TrackedGraph → Listing → Listing → Stage
+with_working_effect desk done None first second =
+    record { desk = desk; first = with_effect desk.first.resolve done first; second = second }
+with_working_effect desk done (Some graph) first second =
+    record { desk = desk; first = first; second = with_effect graph.resolve done second }
 
--- after a change
-abbrev pub AfterChange : Change → ListedState → Bool → ListedState → Type 0
-AfterChange change before done after =
-    Carries before.state (command_of change) done after.state
-    × (after.imports
-    ≡ if_done done before.imports
-    (imports_after change before.state.graph after.state before.imports))
-    × (after.includes
-    ≡ if_done done before.includes (includes_after change after.state.graph before.includes))
+-- what the first graph lists after `merge`, by its reply
+abbrev pub joined : Option Reply → Listing → Listing → Listing
+joined (Some (reply.Merged remap)) first second =
+    merged_listing remap.worlds remap.interfaces second first
+joined _ first second = first
 
--- after `merge`, by the reply to it: what lines list in the other graph, where its things are now
-abbrev pub merged_imports : Reply → List Import → List Import → List Import
-merged_imports (reply.Merged remap) others imports =
-    with_all_imports imports (filter_map (moved_import remap.worlds remap.interfaces) others)
-merged_imports _ others imports = imports
+-- the graphs as they are after a command with this effect and reply, with what was listed before it
+abbrev pub stage_after : Effect → Option Reply → Desk → Listing → Listing → Stage
+stage_after effect.Opens answer desk first second =
+    record { desk = desk; first = first; second = new_listing }
+stage_after effect.Joins answer desk first second =
+    record { desk = desk; first = joined answer first second; second = new_listing }
+stage_after done answer desk first second =
+    if came_to_something answer then with_working_effect desk done desk.second first second
+    else record { desk = desk; first = first; second = second }
 
-abbrev pub merged_includes : Reply → List Include → List Include → List Include
-merged_includes (reply.Merged remap) others includes =
-    with_all_includes includes (filter_map (moved_include remap.worlds) others)
-merged_includes _ others includes = includes
+-- a command that doesn't want memory, what is told of it, and what there is after it
+abbrev pub CommandMakes : ScriptLines → CommandPlace → Stage → Request → List ℕ → Stage → Type 0
+CommandMakes script place before command text after =
+    (answer : Option Reply)
+    × ExplainsCommand script place before.desk command answer text after.desk
+    × (answer ≡ Some (reply.Refused OutOfMemory) → ⊥)
+    × (after
+    ≡ stage_after (request_effect (working before.desk).resolve.graph command) answer after.desk
+    before.first before.second)
 
-abbrev pub AfterMerge : ListedState → ListedState → Bool → ListedState → Type 0
-AfterMerge other before done after =
-    (answer : Reply) × Step before.state (Merge other.state) answer after.state
-    × IsDone answer done
-    × (after.imports ≡ merged_imports answer other.imports before.imports)
-    × (after.includes ≡ merged_includes answer other.includes before.includes)
-
--- ---- the graphs of a script
-
--- that on which commands work
-abbrev pub working_of : ListedState → Option ListedState → ListedState
-working_of first None = first
-working_of first (Some second) = second
-
-abbrev pub working : ListedStage → ListedState
-working stage = working_of stage.first stage.second
-
--- the stage after it has become another
-abbrev pub with_working_of : ListedState → Option ListedState → ListedState → ListedStage
-with_working_of first None new = only_listed new
-with_working_of first (Some second) new = record { first = first; second = Some new }
-
-abbrev pub with_working : ListedStage → ListedState → ListedStage
-with_working stage new = with_working_of stage.first stage.second new
-
--- it is changed
-abbrev pub ChangeMakes : ListedStage → Change → Bool → ListedStage → Type 0
-ChangeMakes before change done after =
-    (new : ListedState) × AfterChange change (working before) done new
-    × (after ≡ with_working before new)
-
--- `merge`: the second graph goes into the first, and is no longer there
-abbrev pub MergeMakes : ListedStage → Option ListedState → Bool → ListedStage → Type 0
-MergeMakes before None done after = ⊥
-MergeMakes before (Some second) done after =
-    (new : ListedState) × AfterMerge second before.first done new × (after ≡ only_listed new)
-
--- `other`: a second graph, which is empty
-abbrev pub OtherMakes : ListedStage → Option ListedState → Bool → ListedStage → Type 0
-OtherMakes before None done after =
-    (done ≡ true) × (after ≡ record { first = before.first; second = Some new_listed_state })
-OtherMakes before (Some second) done after = ⊥
-
--- a command of a script; `print` and `select` make nothing
-abbrev pub CommandMakes : ListedStage → Request → Bool → ListedStage → Type 0
-CommandMakes before (request.Change change) done after = ChangeMakes before change done after
-CommandMakes before request.Other done after = OtherMakes before before.second done after
-CommandMakes before request.Merge done after = MergeMakes before before.second done after
-CommandMakes before (request.Print owner world) done after = after ≡ before
-CommandMakes before (request.Select owner said) done after = after ≡ before
-
--- commands, one after another
-abbrev pub AllMake : ListedStage → List Request → ListedStage → Type 0
-AllMake before [] after = after ≡ before
-AllMake before (command ∷ commands) after =
-    (between : ListedStage) × (done : Bool) × CommandMakes before command done between
-    × AllMake between commands after
+-- commands, one after another, which stand at these places, and what is told of them
+abbrev pub AllMake : ScriptLines → List CommandPlace → Stage → List Request → List ℕ → Stage
+    → Type 0
+AllMake script places before [] text after = (text ≡ []) × (after ≡ before)
+AllMake script places before (command ∷ commands) text after =
+    (between : Stage) × (first : List ℕ) × (rest : List ℕ)
+    × CommandMakes script (place_of script places) before command first between
+    × AllMake script (rest_of places) between commands rest after × (text ≡ first ++ rest)
 
 -- the commands of a script, on an empty graph
-abbrev pub ScriptMakes : List Request → ListedStage → Type 0
-ScriptMakes commands after = AllMake (only_listed new_listed_state) commands after
+abbrev pub ScriptMakes : ScriptLines → List Request → List ℕ → Stage → Type 0
+ScriptMakes script commands text after =
+    AllMake script script.commands new_stage commands text after

@@ -1,12 +1,13 @@
 -- The picture of a script.
 use Rattle.std.specs.Prelude.{◌≡◌, ◌==◌, ℕ, Bool, true, false, List, [], ◌++◌, codes, if◌then◌else◌, length}
-use Rattle.wit_script.specs.Script.{IsNotUnderstood, IsUnderstood}
+use Rattle.wit_graph_data.specs.declared.graph.Graph.{Graph}
+use Rattle.wit_script.specs.Script.{IsUnderstood}
 use Rattle.wit_script_lines.specs.declared.request.Request.{Request}
-use Rattle.wit_script_faults.specs.Explained.{Explains}
+use Rattle.wit_script_faults.specs.Explained.{ExplainsMisread}
 use Rattle.wit_script_lines.specs.Line.{lines_of}
+use Rattle.wit_script_places.specs.Lines.{script_lines_of}
 use Rattle.witgraph_dot.specs.Bundles.{frames_of}
 use Rattle.witgraph_dot.specs.Choice.{choice_of}
-use Rattle.witgraph_dot.specs.Drawn.{ListedStage, ListedState}
 use Rattle.witgraph_dot.specs.Frames.{frame_texts}
 use Rattle.witgraph_dot.specs.Lines.{arrow_lines}
 use Rattle.witgraph_dot.specs.Made.{ScriptMakes}
@@ -15,16 +16,18 @@ use Rattle.witgraph_dot.specs.Shown.{shown_interfaces, shown_worlds}
 use Rattle.witgraph_dot.specs.Texts.{html_text}
 use Rattle.witgraph_dot.specs.declared.picture.TheConstants.{END, HEAD, LEGEND}
 use Rattle.witgraph_dot.specs.declared.choice.Choice.{Choice}
+use Rattle.witgraph_dot.specs.declared.listing.Listing.{Listing}
+use Rattle.witgraph_dot.specs.declared.stage.Stage.{Stage}
 
 -- what a choice shows of a graph, with what lines list
-abbrev pub chosen_view : Choice → ListedState → View
-chosen_view choice listed = record {
-  graph = listed.state.graph;
-  imports = listed.imports;
-  includes = listed.includes;
-  interfaces = shown_interfaces choice listed.state.graph;
-  worlds = shown_worlds choice listed.state.graph;
-  frames = frames_of (shown_interfaces choice listed.state.graph) listed.state.graph.packages;
+abbrev pub chosen_view : Choice → Graph → Listing → View
+chosen_view choice g listing = record {
+  graph = g;
+  imports = listing.imports;
+  includes = listing.includes;
+  interfaces = shown_interfaces choice g;
+  worlds = shown_worlds choice g;
+  frames = frames_of (shown_interfaces choice g) g.packages;
   only_added = choice.only_added;
 }
 
@@ -41,28 +44,22 @@ picture_text v note =
     ++ (frame_texts v 0 v.graph.packages
     ++ (arrow_lines v ++ (LEGEND.now ++ (note_line note ++ END.now))))
 
--- what is told of a script: its refusals, what isn't there, or why it isn't understood
-abbrev pub IsTold : List ℕ → List ℕ → Type 0
-IsTold input told = (understood : Bool) × Explains input understood told
+-- what a choice shows of the first graph of a script, and a note
+abbrev pub drawn_text : Choice → Stage → List ℕ → List ℕ
+drawn_text choice stage note =
+    picture_text (chosen_view choice stage.desk.first.resolve.graph stage.first) note
 
--- what is written of a script that is understood: what its comments choose of the graph that is there after its commands, and
--- what is told of it
+-- what is written of a script that is understood: what its comments choose of the first graph that is there after its
+-- commands, and what is told of them
 pub record DrawsScript (input text : List ℕ) : Type 0 where
   pub commands : List Request
   pub understood : IsUnderstood input commands
-  pub after : ListedStage
-  pub made : ScriptMakes commands after
   pub note : List ℕ
-  pub told : IsTold input note
-  pub drawn : text ≡ picture_text (chosen_view (choice_of (lines_of input)) after.first) note
+  pub after : Stage
+  pub made : ScriptMakes (script_lines_of (lines_of input)) commands note after
+  pub drawn : text ≡ drawn_text (choice_of (lines_of input)) after note
 
--- what is written of a script that isn't: what is told of it
-pub record TellsScript (input text : List ℕ) : Type 0 where
-  pub number : ℕ
-  pub bad : IsNotUnderstood input number
-  pub told : IsTold input text
-
--- what is written of a script, and whether it is understood
+-- what is written of a script, and whether it is understood: of one that isn't, why
 abbrev pub Draws : List ℕ → Bool → List ℕ → Type 0
 Draws input true text = DrawsScript input text
-Draws input false text = TellsScript input text
+Draws input false text = ExplainsMisread input text

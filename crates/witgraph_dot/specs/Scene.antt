@@ -6,9 +6,9 @@ use Rattle.wit_digraph.specs.PostOrder.{first_of_each}
 use Rattle.wit_graph_data.specs.Queries.{interface_direct_deps}
 use Rattle.wit_graph_data.specs.declared.graph.Graph.{Graph}
 use Rattle.witgraph_dot.specs.Bundles.{bundle, frame_arrows, frames_but, whole_frames}
-use Rattle.witgraph_dot.specs.Drawn.{own_exports, own_imports}
-use Rattle.witgraph_dot.specs.Listed.{imports_of, includes, includes_of}
-use Rattle.witgraph_dot.specs.Sets.{are_among, is_among, within, without}
+use Rattle.witgraph_dot.specs.Entries.{own_exports, own_imports}
+use Rattle.witgraph_dot.specs.Listed.{imports_of, has_include, includes_of}
+use Rattle.witgraph_dot.specs.Sets.{are_among, is_one_of, intersection, without}
 use Rattle.witgraph_dot.specs.declared.arrow.Arrow.{Arrow}
 use Rattle.witgraph_dot.specs.declared.arrow.ArrowKind.TheVariants as kind
 use Rattle.witgraph_dot.specs.declared.arrow.Target.TheVariants as target
@@ -29,8 +29,8 @@ pub record View : Type 0 where
 abbrev pub view_of : Scene → View
 view_of scene = record {
   graph = scene.resolve.now.graph;
-  imports = scene.listing.now.imports.items;
-  includes = scene.listing.now.includes.items;
+  imports = scene.listing.now.imports;
+  includes = scene.listing.now.includes;
   interfaces = scene.interfaces.items;
   worlds = scene.worlds.items;
   frames = scene.frames;
@@ -43,7 +43,7 @@ view_of scene = record {
 abbrev pub shown_uses : View → ℕ → List ℕ
 shown_uses v i =
     first_of_each
-    (filter (is_among v.interfaces) (interface_direct_deps v.graph.types v.graph.interfaces i))
+    (filter (is_one_of v.interfaces) (interface_direct_deps v.graph.types v.graph.interfaces i))
 
 -- the arrows from interface i
 abbrev pub uses_arrows : View → ℕ → List Arrow
@@ -58,14 +58,14 @@ included_imports worlds some = flat_map (λ w. own_imports (slice_get worlds w))
 -- world w' is shown, imports something, and world w imports all that it imports
 abbrev pub is_included : View → ℕ → ℕ → Bool
 is_included v w w' =
-    is_among v.worlds w'
+    is_one_of v.worlds w'
     && (not (length (own_imports (slice_get v.graph.worlds w')) == 0)
     && are_among (own_imports (slice_get v.graph.worlds w'))
     (own_imports (slice_get v.graph.worlds w)))
 
 -- one of some worlds includes world w
 abbrev pub is_included_by_any : List Include → List ℕ → ℕ → Bool
-is_included_by_any included worlds w = list_any (λ u. includes included u w) worlds
+is_included_by_any included worlds w = list_any (λ u. has_include included u w) worlds
 
 -- the worlds that no other of them includes
 abbrev pub outermost : List Include → List ℕ → List ℕ
@@ -83,7 +83,7 @@ included_arrows worlds = map (λ w. record { kind = kind.Listed; target = target
 
 -- what world w imports under the ids of interfaces that are shown
 abbrev pub shown_imports : View → ℕ → List ℕ
-shown_imports v w = within (own_imports (slice_get v.graph.worlds w)) v.interfaces
+shown_imports v w = intersection (own_imports (slice_get v.graph.worlds w)) v.interfaces
 
 -- the frames without what world w exports, since an arrow to a frame stands for all that is in it but that
 abbrev pub import_frames : View → ℕ → List (List ℕ)
@@ -97,7 +97,7 @@ left_imports v w =
 -- of that what some included world imports, shown or not
 abbrev pub brought_imports : View → ℕ → List ℕ
 brought_imports v w =
-    within (left_imports v w) (included_imports v.graph.worlds (includes_of w v.includes))
+    intersection (left_imports v w) (included_imports v.graph.worlds (includes_of w v.includes))
 
 -- what stands in whole frames of what included worlds import
 abbrev pub bundled_imports : View → ℕ → List ℕ
@@ -110,7 +110,8 @@ single_imports v w = without (left_imports v w) (bundled_imports v w)
 -- of what is left the arrows to what lines list, and to what elaboration added
 abbrev pub listed_arrows : View → ℕ → List Arrow
 listed_arrows v w =
-    bundle (import_frames v w) kind.Listed (within (single_imports v w) (imports_of w v.imports))
+    bundle (import_frames v w) kind.Listed
+    (intersection (single_imports v w) (imports_of w v.imports))
 
 abbrev pub unlisted_arrows : View → ℕ → List Arrow
 unlisted_arrows v w =
@@ -132,8 +133,9 @@ added_arrows v w =
 -- the arrows to what world w exports
 abbrev pub export_arrows : View → ℕ → List Arrow
 export_arrows v w =
-    bundle v.frames kind.Exported (within (own_exports (slice_get v.graph.worlds w)) v.interfaces)
+    bundle v.frames kind.Exported
+    (intersection (own_exports (slice_get v.graph.worlds w)) v.interfaces)
 
 -- the arrows from world w
-abbrev pub world_arrows : View → ℕ → List Arrow
-world_arrows v w = if v.only_added then added_arrows v w else import_arrows v w ++ export_arrows v w
+abbrev pub entry_arrows : View → ℕ → List Arrow
+entry_arrows v w = if v.only_added then added_arrows v w else import_arrows v w ++ export_arrows v w

@@ -1,9 +1,9 @@
 //! Arrows that lead to the same frame as one.
 ghost use Rattle.std.specs.Prelude.{◌≡◌, ◌++◌, IfOk, OnOk};
-ghost use Rattle.witgraph_dot.specs.Bundles.{bundle, frame_arrows, frame_of, frames_but, frames_of, interface_arrows, is_whole, whole_frames};
+ghost use Rattle.witgraph_dot.specs.Bundles.{bundle, frame_arrows, frame_of, frames_but, frames_of, arrows_to_interfaces, is_whole, whole_frames};
 
 use crate::arrow::{Arrow, ArrowKind, Target};
-use crate::sets::{are_among, is_among, without};
+use crate::sets::{are_among, is_one_of, without};
 use std::alloc::{AllocError, Global};
 use wit_resolve_graph::{InterfaceId, Items, Package, PackageId};
 
@@ -17,7 +17,7 @@ fn frame_of(
 {
     let mut frame = Items::new(alloc);
     for (_, id) in package.interfaces.iter() {
-        if is_among(shown, *id) {
+        if is_one_of(shown, *id) {
             frame.push(*id)?;
         }
     }
@@ -105,7 +105,7 @@ fn add_interfaces(
     arrows: &mut Vec<Arrow>,
 ) -> Result<(), AllocError>
     ensures { OnOk result
-        (arrows.new.items ≡ arrows.old.items ++ interface_arrows kind targets.now) }
+        (arrows.new.items ≡ arrows.old.items ++ arrows_to_interfaces kind targets.now) }
 {
     for id in targets {
         let target = Target::Interface(*id);

@@ -1,7 +1,7 @@
 //! What the comment lines of a script choose for its picture.
 ghost use Rattle.std.specs.Prelude.{◌≡◌, IfOk, OnOk};
 ghost use Rattle.wit_script_lines.specs.Line.{lines_of};
-ghost use Rattle.witgraph_dot.specs.Choice.{all_things, and_pick, choice_of, is_picked, is_version_of, pick_of, picks, picks_name, picks_package, with_line};
+ghost use Rattle.witgraph_dot.specs.Choice.{all_things, and_pick, choice_of, is_picked, matches_version, pick_of, picks, picks_name, picks_package, and_line};
 
 use std::alloc::{AllocError, Global};
 use wit_resolve_graph::{Items, PackageName, Text, Version};
@@ -27,8 +27,8 @@ pub struct Choice {
 }
 
 /// Whether a version is that of a pick, which may have none.
-fn is_version_of(picked: &Option<Version>, version: &Option<Version>) -> bool
-    ensures { result ≡ is_version_of picked.now version.now }
+fn matches_version(picked: &Option<Version>, version: &Option<Version>) -> bool
+    ensures { result ≡ matches_version picked.now version.now }
 {
     match picked {
         Some(_) => picked == version,
@@ -43,7 +43,7 @@ impl Pick {
     {
         self.package.namespace == owner.namespace
             && self.package.name == owner.name
-            && is_version_of(&self.package.version, &owner.version)
+            && matches_version(&self.package.version, &owner.version)
     }
 
     /// Whether it picks all of its package, or what has this name in it.
@@ -114,7 +114,7 @@ impl Choice {
 
     /// Adds what a line chooses.
     fn add_line(&mut self, alloc: Global, line: &str) -> Result<(), AllocError>
-        ensures { OnOk result (self.new ≡ with_line self.old line.now) }
+        ensures { OnOk result (self.new ≡ and_line self.old line.now) }
     {
         if line == "# only-added" {
             self.only_added = true;

@@ -92,7 +92,7 @@ fn write_entries(
     ensures { OnOk result
         (string_bytes text.new ≡ string_bytes text.old ++ world_lines (view_of scene.now) world) }
 {
-    let arrows = scene.world_arrows(alloc, world)?;
+    let arrows = scene.entry_arrows(alloc, world)?;
     write_each(scene, "w", world.index(), &arrows, text)?;
     write_labelled_entries(alloc, scene, world, text)
 }

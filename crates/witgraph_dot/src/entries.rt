@@ -2,7 +2,7 @@
 ghost use Rattle.std.specs.Prelude.{◌≡◌, ◌++◌, IfOk, OnOk, slice_get};
 ghost use Rattle.wit_data.specs.Entries.{interfaces_of_entries};
 ghost use Rattle.wit_elaboration.specs.Entries.{keyed_interfaces};
-ghost use Rattle.witgraph_dot.specs.Drawn.{own_exports, own_imports};
+ghost use Rattle.witgraph_dot.specs.Entries.{own_exports, own_imports};
 
 use std::alloc::{AllocError, Global};
 use wit_resolve_graph::{InterfaceId, Resolve, Table, WorldId, WorldItem, WorldKey};

@@ -3,10 +3,10 @@ ghost use Rattle.std.specs.Prelude.{◌≡◌, ◌++◌, OnOk, string_bytes};
 ghost use Rattle.std.specs.List.{flat_map};
 ghost use Rattle.witgraph_dot.specs.Scene.{view_of};
 ghost use Rattle.witgraph_dot.specs.Frames.{frame_head, frame_text, has_inner_frame, inner_frame, shown_boxes, shown_world, shows_world, whole_frame, world_boxes};
-ghost use Rattle.witgraph_dot.specs.Boxes.{entry_line, interface_box, interface_boxes, line_of_entry, name_box, world_box, world_head};
+ghost use Rattle.witgraph_dot.specs.Boxes.{box_line, interface_box, interface_boxes, line_of_entry, name_box, world_box, world_head};
 
 use crate::scene::Scene;
-use crate::sets::{is_among, is_world_among};
+use crate::sets::{is_one_of, is_world_among};
 use crate::texts::{Quoted, QuotedName};
 use std::alloc::AllocError;
 use std::fmt::Write;
@@ -142,7 +142,7 @@ fn write_interfaces(
         ≡ string_bytes text.old ++ interface_boxes shown.now «package».now) }
 {
     for (name, id) in package.interfaces.iter() {
-        if is_among(shown, *id) {
+        if is_one_of(shown, *id) {
             write_interface(id.index(), name, text)?;
         }
     }
@@ -216,7 +216,7 @@ fn write_labels(
     text: &mut String,
 ) -> Result<(), AllocError>
     ensures { OnOk result (string_bytes text.new
-        ≡ string_bytes text.old ++ flat_map (entry_line word.now) entries.now) }
+        ≡ string_bytes text.old ++ flat_map (box_line word.now) entries.now) }
 {
     for (key, item) in entries.iter() {
         write_label(word, key, item, text)?;

@@ -1,10 +1,10 @@
 //! The interfaces of a world that stand under labels.
 ghost use Rattle.std.specs.Prelude.{◌≡◌, IfOk, filter};
 ghost use Rattle.wit_digraph.specs.PostOrder.{first_of_each};
-ghost use Rattle.witgraph_dot.specs.Sets.{is_among};
+ghost use Rattle.witgraph_dot.specs.Sets.{is_one_of};
 ghost use Rattle.witgraph_dot.specs.Labels.{labelled_interface, labelled_interfaces};
 
-use crate::sets::is_among;
+use crate::sets::is_one_of;
 use std::alloc::{AllocError, Global};
 use wit_resolve_graph::{InterfaceId, Table, WorldItem, WorldKey};
 
@@ -26,12 +26,12 @@ pub fn labelled_interfaces(
 ) -> Result<Vec<InterfaceId>, AllocError>
     ensures { IfOk result (λ found.
         found.items
-        ≡ first_of_each (filter (is_among shown.now) (labelled_interfaces entries.now))) }
+        ≡ first_of_each (filter (is_one_of shown.now) (labelled_interfaces entries.now))) }
 {
     let mut found = Vec::new(alloc);
     for (key, item) in entries.iter() {
         if let Some(id) = labelled_interface(key, item) {
-            if is_among(shown, id) && !is_among(&found, id) {
+            if is_one_of(shown, id) && !is_one_of(&found, id) {
                 found.push(id)?;
             }
         }

@@ -1,9 +1,9 @@
 //! The imports that lines list, and the worlds that they include.
-ghost use Rattle.std.specs.Prelude.{◌≡◌, IfOk, OnOk, [], filter_map};
-ghost use Rattle.witgraph_dot.specs.Listed.{imports_of, includes, includes_of, lists, moved_import, moved_include, others_of, with_all_imports, with_all_includes, with_import, with_imports, with_include, with_includes};
+ghost use Rattle.std.specs.Prelude.{◌≡◌, IfOk, OnOk, filter_map};
+ghost use Rattle.witgraph_dot.specs.Listed.{imports_of, has_include, includes_of, lists, merged_listing, moved_import, moved_include, new_listing, others_of, and_import, and_imports, and_include, and_includes};
 
 use std::alloc::{AllocError, Global};
-use wit_resolve_graph::{InterfaceId, Remap, WorldId};
+use wit_resolve_graph::{InterfaceId, Items, Remap, WorldId};
 
 /// That a world imports an interface under the interface's own id.
 #[derive(Clone, Copy)]
@@ -50,25 +50,24 @@ impl Include {
 /// both graphs count.
 #[derive(Drop)]
 pub struct Listing {
-    imports: Vec<Import>,
-    includes: Vec<Include>,
+    imports: Items<Import>,
+    includes: Items<Include>,
 }
 
 impl Listing {
     /// No import and no include.
     pub fn new(alloc: Global) -> Listing
-        ensures imports { result.imports.items ≡ [] }
-        ensures includes { result.includes.items ≡ [] }
+        ensures { result ≡ new_listing }
     {
         Listing {
-            imports: Vec::new(alloc),
-            includes: Vec::new(alloc),
+            imports: Items::new(alloc),
+            includes: Items::new(alloc),
         }
     }
 
     /// Whether a line lists this interface for this world.
     pub fn has(&self, world: WorldId, interface: InterfaceId) -> bool
-        ensures { result ≡ lists self.now.imports.items world interface }
+        ensures { result ≡ lists self.now.imports world interface }
     {
         self.imports.iter().any(|import| import.world == world && import.interface == interface)
     }
@@ -76,10 +75,10 @@ impl Listing {
     /// What lines list for a world.
     pub fn imports_of(&self, alloc: Global, world: WorldId) -> Result<Vec<InterfaceId>, AllocError>
         ensures { IfOk result
-            (λ interfaces. interfaces.items ≡ imports_of world self.now.imports.items) }
+            (λ interfaces. interfaces.items ≡ imports_of world self.now.imports) }
     {
         let mut interfaces = Vec::new(alloc);
-        for import in &self.imports {
+        for import in self.imports.as_slice() {
             if import.world == world {
                 interfaces.push(import.interface)?;
             }
@@ -90,8 +89,8 @@ impl Listing {
     /// Adds an interface to what is listed for a world.
     pub fn add(&mut self, world: WorldId, interface: InterfaceId) -> Result<(), AllocError>
         ensures listed { OnOk result
-            (self.new.imports.items ≡ with_import self.old.imports.items world interface) }
-        ensures included { self.new.includes.items ≡ self.old.includes.items }
+            (self.new.imports ≡ and_import self.old.imports world interface) }
+        ensures included { self.new.includes ≡ self.old.includes }
     {
         if !self.has(world, interface) {
             self.imports.push(Import { world, interface })?;
@@ -102,8 +101,8 @@ impl Listing {
     /// Adds these interfaces to what is listed for a world.
     pub fn add_all(&mut self, world: WorldId, interfaces: &[InterfaceId]) -> Result<(), AllocError>
         ensures listed { OnOk result
-            (self.new.imports.items ≡ with_imports self.old.imports.items world interfaces.now) }
-        ensures included { self.new.includes.items ≡ self.old.includes.items }
+            (self.new.imports ≡ and_imports self.old.imports world interfaces.now) }
+        ensures included { self.new.includes ≡ self.old.includes }
     {
         for interface in interfaces {
             self.add(world, *interface)?;
@@ -113,17 +112,17 @@ impl Listing {
 
     /// Whether a world includes another.
     pub fn includes(&self, world: WorldId, included: WorldId) -> bool
-        ensures { result ≡ includes self.now.includes.items world included }
+        ensures { result ≡ has_include self.now.includes world included }
     {
         self.includes.iter().any(|include| include.world == world && include.included == included)
     }
 
     /// The worlds that a world includes.
     pub fn includes_of(&self, alloc: Global, world: WorldId) -> Result<Vec<WorldId>, AllocError>
-        ensures { IfOk result (λ worlds. worlds.items ≡ includes_of world self.now.includes.items) }
+        ensures { IfOk result (λ worlds. worlds.items ≡ includes_of world self.now.includes) }
     {
         let mut worlds = Vec::new(alloc);
-        for include in &self.includes {
+        for include in self.includes.as_slice() {
             if include.world == world {
                 worlds.push(include.included)?;
             }
@@ -134,8 +133,8 @@ impl Listing {
     /// Adds a world to those that a world includes.
     pub fn add_include(&mut self, world: WorldId, included: WorldId) -> Result<(), AllocError>
         ensures included { OnOk result
-            (self.new.includes.items ≡ with_include self.old.includes.items world included) }
-        ensures listed { self.new.imports.items ≡ self.old.imports.items }
+            (self.new.includes ≡ and_include self.old.includes world included) }
+        ensures listed { self.new.imports ≡ self.old.imports }
     {
         if !self.includes(world, included) {
             self.includes.push(Include { world, included })?;
@@ -146,8 +145,8 @@ impl Listing {
     /// Adds these worlds to those that a world includes.
     pub fn add_includes(&mut self, world: WorldId, included: &[WorldId]) -> Result<(), AllocError>
         ensures included { OnOk result
-            (self.new.includes.items ≡ with_includes self.old.includes.items world included.now) }
-        ensures listed { self.new.imports.items ≡ self.old.imports.items }
+            (self.new.includes ≡ and_includes self.old.includes world included.now) }
+        ensures listed { self.new.imports ≡ self.old.imports }
     {
         for other in included {
             self.add_include(world, *other)?;
@@ -162,12 +161,12 @@ impl Listing {
         world: WorldId,
         interfaces: &[InterfaceId],
     ) -> Result<(), AllocError>
-        ensures listed { OnOk result (self.new.imports.items
-            ≡ with_imports (others_of world self.old.imports.items) world interfaces.now) }
-        ensures included { self.new.includes.items ≡ self.old.includes.items }
+        ensures listed { OnOk result (self.new.imports
+            ≡ and_imports (others_of world self.old.imports) world interfaces.now) }
+        ensures included { self.new.includes ≡ self.old.includes }
     {
-        let mut imports = Vec::new(alloc);
-        for import in &self.imports {
+        let mut imports = Items::new(alloc);
+        for import in self.imports.as_slice() {
             if import.world != world {
                 imports.push(*import)?;
             }
@@ -178,20 +177,15 @@ impl Listing {
 
     /// Adds what is listed in a graph that was merged, whose things are now where the remap says.
     pub fn merge(&mut self, other: &Listing, remap: &Remap) -> Result<(), AllocError>
-        ensures imports { OnOk result (self.new.imports.items
-            ≡ with_all_imports self.old.imports.items
-            (filter_map (moved_import remap.now.worlds remap.now.interfaces)
-            other.now.imports.items)) }
-        ensures includes { OnOk result (self.new.includes.items
-            ≡ with_all_includes self.old.includes.items
-            (filter_map (moved_include remap.now.worlds) other.now.includes.items)) }
+        ensures { OnOk result (self.new
+            ≡ merged_listing remap.now.worlds remap.now.interfaces other.now self.old) }
     {
-        for import in &other.imports {
+        for import in other.imports.as_slice() {
             if let Some(Import { world, interface }) = import.moved(remap) {
                 self.add(world, interface)?;
             }
         }
-        for include in &other.includes {
+        for include in other.includes.as_slice() {
             if let Some(Include { world, included }) = include.moved(remap) {
                 self.add_include(world, included)?;
             }

@@ -4,10 +4,10 @@
 //! A package is a frame with its name, which holds its interfaces, round, and its worlds, with the functions and types
 //! that they import and export under their names. An arrow leads from an interface to each that it uses, and from a world
 //! to the interfaces that it imports and exports; its colour tells which, as the line below the picture says. An import
-//! that elaboration added has a colour of its own: see `Listing` for what that is. Below stands what `explain_text`
-//! tells of the script: its refusals, and what isn't there, each with its lines.
+//! that elaboration added has a colour of its own: see `Listing` for what that is. Below stands what the same run tells
+//! of the script, as `explain_text` does: its refusals, and what isn't there, each with its lines.
 //!
-//! Of a script that isn't understood there is no picture, but what `explain_text` tells.
+//! Of a script that isn't understood there is no picture, but the line at which it isn't, and why.
 #![tactic(auto)]
 
 ghost use Rattle.std.specs.Prelude.{IfOk, string_bytes};
@@ -17,10 +17,10 @@ mod arrow;
 mod bundles;
 mod choice;
 mod drawing;
+mod effect;
 mod entries;
 mod frame;
 mod labels;
-mod listed_graph;
 mod listing;
 mod names;
 mod package_lines;
@@ -31,7 +31,6 @@ mod shown;
 mod stage;
 mod texts;
 mod track;
-mod transformations;
 
 use crate::choice::Choice;
 use crate::picture::draw;
@@ -41,21 +40,23 @@ use std::io;
 use std::process::ExitCode;
 use wit_resolve_graph::{ResolveError, ResolveResult};
 use wit_script::{ReadFault, read_script};
-use wit_script_faults::explain_text;
+use wit_script_faults::misread;
+use wit_script_places::script_lines;
 
 /// Whether a script is understood, and its picture, or why it isn't. The only refusal is want of memory, in a command or
 /// outside.
 fn answer(alloc: Global, script: &str) -> ResolveResult<(bool, String)>
     ensures { IfOk result (λ answer. Draws script.now answer.0 (string_bytes answer.1)) }
 {
-    let (_, told) = explain_text(alloc, script)?;
+    let lines = script_lines(alloc, script)?;
     match read_script(alloc, script) {
         Ok(commands) => {
-            let stage = Stage::after(alloc, commands)?;
+            let (stage, note) = Stage::after(alloc, &lines, commands)?;
             let choice = Choice::of_script(alloc, script)?;
-            Ok((true, draw(alloc, stage.first(), &told, &choice)?))
+            let graph = &stage.desk.first.resolve;
+            Ok((true, draw(alloc, graph, &stage.first, &note, &choice)?))
         }
-        Err(ReadFault::NotUnderstood { .. }) => Ok((false, told)),
+        Err(ReadFault::NotUnderstood { line }) => Ok((false, misread(alloc, &lines, line)?)),
         Err(ReadFault::OutOfMemory) => Err(ResolveError::from(AllocError)),
     }
 }

@@ -1,7 +1,7 @@
 //! Worlds and interfaces by their names.
 ghost use Rattle.std.specs.Prelude.{◌≡◌};
 ghost use Rattle.std.specs.Option.{option_map};
-ghost use Rattle.witgraph_dot.specs.Pushed.{interface_named, interface_of, is_interface, is_world, world_of};
+ghost use Rattle.witgraph_dot.specs.Pushed.{interface_by_name, graph_interface, is_interface_item, is_world_item, graph_world};
 ghost use Rattle.witgraph_dot.specs.Tracks.{full_name};
 
 use wit_resolve_graph::{
@@ -9,8 +9,8 @@ use wit_resolve_graph::{
 };
 
 /// The interface of this name in the package of that name.
-fn interface_named(resolve: &Resolve, owner: &PackageName, name: &str) -> Option<InterfaceId>
-    ensures { result ≡ interface_named resolve.now.graph owner.now name.now }
+fn interface_by_name(resolve: &Resolve, owner: &PackageName, name: &str) -> Option<InterfaceId>
+    ensures { result ≡ interface_by_name resolve.now.graph owner.now name.now }
 {
     let id = resolve.package_names().get(owner)?;
     let package = resolve.packages().get(id.index())?;
@@ -19,8 +19,8 @@ fn interface_named(resolve: &Resolve, owner: &PackageName, name: &str) -> Option
 }
 
 /// Whether an item of another package is the interface of this id.
-fn is_interface(item: &AstItem, id: InterfaceId) -> bool
-    ensures { result ≡ is_interface id item.now }
+fn is_interface_item(item: &AstItem, id: InterfaceId) -> bool
+    ensures { result ≡ is_interface_item id item.now }
 {
     match item {
         AstItem::Interface(other) => *other == id,
@@ -29,8 +29,8 @@ fn is_interface(item: &AstItem, id: InterfaceId) -> bool
 }
 
 /// Whether an item of another package is the world of this id.
-fn is_world(item: &AstItem, id: WorldId) -> bool
-    ensures { result ≡ is_world id item.now }
+fn is_world_item(item: &AstItem, id: WorldId) -> bool
+    ensures { result ≡ is_world_item id item.now }
 {
     match item {
         AstItem::Interface(_) => false,
@@ -39,32 +39,32 @@ fn is_world(item: &AstItem, id: WorldId) -> bool
 }
 
 /// The interface of the graph that a package which is pushed names by this id of its own.
-pub fn interface_of(
+pub fn graph_interface(
     resolve: &Resolve,
     package: &UnresolvedPackage,
     id: InterfaceId,
 ) -> Option<InterfaceId>
-    ensures { result ≡ interface_of resolve.now.graph «package».now id }
+    ensures { result ≡ graph_interface resolve.now.graph «package».now id }
 {
     for (owner, items) in package.foreign_deps.iter() {
         for (name, (item, _)) in items.iter() {
-            if is_interface(item, id) {
-                return interface_named(resolve, owner, name);
+            if is_interface_item(item, id) {
+                return interface_by_name(resolve, owner, name);
             }
         }
     }
     let interface = package.interfaces.get(id.index())?;
     let name = interface.name.as_ref()?;
-    interface_named(resolve, &package.name, name.as_str())
+    interface_by_name(resolve, &package.name, name.as_str())
 }
 
 /// The world of the graph that a package which is pushed names by this id of its own.
-pub fn world_of(resolve: &Resolve, package: &UnresolvedPackage, id: WorldId) -> Option<WorldId>
-    ensures { result ≡ world_of resolve.now.graph «package».now id }
+pub fn graph_world(resolve: &Resolve, package: &UnresolvedPackage, id: WorldId) -> Option<WorldId>
+    ensures { result ≡ graph_world resolve.now.graph «package».now id }
 {
     for (owner, items) in package.foreign_deps.iter() {
         for (name, (item, _)) in items.iter() {
-            if is_world(item, id) {
+            if is_world_item(item, id) {
                 return resolve.world_named(owner, name);
             }
         }

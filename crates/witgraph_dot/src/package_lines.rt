@@ -1,10 +1,10 @@
 //! What the lines of packages list.
 ghost use Rattle.std.specs.Prelude.{◌≡◌, ◌++◌, OnOk, flat_map, fold};
-ghost use Rattle.witgraph_dot.specs.Listed.{with_all_includes, with_all_imports, with_imports};
-ghost use Rattle.witgraph_dot.specs.Pushed.{includes_for, line_imports, line_includes, package_imports, package_includes, pushed_imports, pushed_includes, with_brought_imports, with_brought_includes, world_imports, world_includes};
+ghost use Rattle.witgraph_dot.specs.Listed.{with_all_includes, with_all_imports, and_imports};
+ghost use Rattle.witgraph_dot.specs.Pushed.{includes_for, line_imports, line_includes, imports_in_package, includes_in_package, pushed_imports, pushed_includes, with_brought_imports, with_brought_includes, world_imports, world_includes};
 
 use crate::listing::{Include, Listing};
-use crate::names::{interface_of, world_of};
+use crate::names::{graph_interface, graph_world};
 use std::alloc::{AllocError, Global};
 use wit_resolve_graph::{
     Resolve, UnresolvedPackage, UnresolvedPackageGroup, World, WorldId, WorldKey,
@@ -17,10 +17,10 @@ pub fn list_groups(
     groups: &[UnresolvedPackageGroup],
     listing: &mut Listing,
 ) -> Result<(), AllocError>
-    ensures imports { OnOk result (listing.new.imports.items
-        ≡ pushed_imports resolve.now.graph groups.now listing.old.imports.items) }
-    ensures includes { OnOk result (listing.new.includes.items
-        ≡ pushed_includes resolve.now.graph groups.now listing.old.includes.items) }
+    ensures imports { OnOk result (listing.new.imports
+        ≡ pushed_imports resolve.now.graph groups.now listing.old.imports) }
+    ensures includes { OnOk result (listing.new.includes
+        ≡ pushed_includes resolve.now.graph groups.now listing.old.includes) }
 {
     let mut includes = Vec::new(alloc);
     for group in groups {
@@ -40,10 +40,10 @@ fn list_included(
     includes: &[Include],
     listing: &mut Listing,
 ) -> Result<(), AllocError>
-    ensures imports { OnOk result (listing.new.imports.items
-        ≡ fold with_brought_imports listing.old.imports.items includes.now) }
-    ensures includes { OnOk result (listing.new.includes.items
-        ≡ fold with_brought_includes listing.old.includes.items includes.now) }
+    ensures imports { OnOk result (listing.new.imports
+        ≡ fold with_brought_imports listing.old.imports includes.now) }
+    ensures includes { OnOk result (listing.new.includes
+        ≡ fold with_brought_includes listing.old.includes includes.now) }
 {
     for include in includes {
         let imports = listing.imports_of(alloc, include.included)?;
@@ -61,14 +61,14 @@ fn list_packages(
     listing: &mut Listing,
     includes: &mut Vec<Include>,
 ) -> Result<(), AllocError>
-    ensures imports { OnOk result (listing.new.imports.items
-        ≡ with_all_imports listing.old.imports.items
-        (flat_map (package_imports resolve.now.graph) packages.now)) }
-    ensures includes { OnOk result (listing.new.includes.items
-        ≡ with_all_includes listing.old.includes.items
-        (flat_map (package_includes resolve.now.graph) packages.now)) }
+    ensures imports { OnOk result (listing.new.imports
+        ≡ with_all_imports listing.old.imports
+        (flat_map (imports_in_package resolve.now.graph) packages.now)) }
+    ensures includes { OnOk result (listing.new.includes
+        ≡ with_all_includes listing.old.includes
+        (flat_map (includes_in_package resolve.now.graph) packages.now)) }
     ensures gathered { OnOk result (includes.new.items
-        ≡ includes.old.items ++ flat_map (package_includes resolve.now.graph) packages.now) }
+        ≡ includes.old.items ++ flat_map (includes_in_package resolve.now.graph) packages.now) }
 {
     for package in packages {
         list_package(resolve, package, listing, includes)?;
@@ -83,14 +83,14 @@ fn list_package(
     listing: &mut Listing,
     includes: &mut Vec<Include>,
 ) -> Result<(), AllocError>
-    ensures imports { OnOk result (listing.new.imports.items
-        ≡ with_all_imports listing.old.imports.items
-        (package_imports resolve.now.graph «package».now)) }
-    ensures includes { OnOk result (listing.new.includes.items
-        ≡ with_all_includes listing.old.includes.items
-        (package_includes resolve.now.graph «package».now)) }
+    ensures imports { OnOk result (listing.new.imports
+        ≡ with_all_imports listing.old.imports
+        (imports_in_package resolve.now.graph «package».now)) }
+    ensures includes { OnOk result (listing.new.includes
+        ≡ with_all_includes listing.old.includes
+        (includes_in_package resolve.now.graph «package».now)) }
     ensures gathered { OnOk result (includes.new.items
-        ≡ includes.old.items ++ package_includes resolve.now.graph «package».now) }
+        ≡ includes.old.items ++ includes_in_package resolve.now.graph «package».now) }
 {
     for (index, world) in package.worlds.as_slice().iter().enumerate() {
         list_world(resolve, package, world, index, listing, includes)?;
@@ -107,16 +107,16 @@ fn list_world(
     listing: &mut Listing,
     includes: &mut Vec<Include>,
 ) -> Result<(), AllocError>
-    ensures imports { OnOk result (listing.new.imports.items
-        ≡ with_all_imports listing.old.imports.items
+    ensures imports { OnOk result (listing.new.imports
+        ≡ with_all_imports listing.old.imports
         (world_imports resolve.now.graph «package».now index world.now)) }
-    ensures includes { OnOk result (listing.new.includes.items
-        ≡ with_all_includes listing.old.includes.items
+    ensures includes { OnOk result (listing.new.includes
+        ≡ with_all_includes listing.old.includes
         (world_includes resolve.now.graph «package».now index world.now)) }
     ensures gathered { OnOk result (includes.new.items
         ≡ includes.old.items ++ world_includes resolve.now.graph «package».now index world.now) }
 {
-    let Some(id) = world_of(resolve, package, WorldId::from_index(index)) else {
+    let Some(id) = graph_world(resolve, package, WorldId::from_index(index)) else {
         return Ok(());
     };
     list_imports(resolve, package, world, id, listing)?;
@@ -131,14 +131,14 @@ fn list_imports(
     id: WorldId,
     listing: &mut Listing,
 ) -> Result<(), AllocError>
-    ensures imports { OnOk result (listing.new.imports.items
-        ≡ with_imports listing.old.imports.items id
+    ensures imports { OnOk result (listing.new.imports
+        ≡ and_imports listing.old.imports id
         (line_imports resolve.now.graph «package».now world.now)) }
-    ensures includes { listing.new.includes.items ≡ listing.old.includes.items }
+    ensures includes { listing.new.includes ≡ listing.old.includes }
 {
     for (key, _) in world.imports.iter() {
         if let WorldKey::Interface(interface) = key {
-            if let Some(interface) = interface_of(resolve, package, *interface) {
+            if let Some(interface) = graph_interface(resolve, package, *interface) {
                 listing.add(id, interface)?;
             }
         }
@@ -155,16 +155,16 @@ fn list_includes(
     listing: &mut Listing,
     includes: &mut Vec<Include>,
 ) -> Result<(), AllocError>
-    ensures imports { listing.new.imports.items ≡ listing.old.imports.items }
-    ensures includes { OnOk result (listing.new.includes.items
-        ≡ with_all_includes listing.old.includes.items
+    ensures imports { listing.new.imports ≡ listing.old.imports }
+    ensures includes { OnOk result (listing.new.includes
+        ≡ with_all_includes listing.old.includes
         (includes_for (line_includes resolve.now.graph «package».now world.now) id)) }
     ensures gathered { OnOk result (includes.new.items
         ≡ includes.old.items
         ++ includes_for (line_includes resolve.now.graph «package».now world.now) id) }
 {
     for include in world.includes.as_slice() {
-        if let Some(included) = world_of(resolve, package, include.id) {
+        if let Some(included) = graph_world(resolve, package, include.id) {
             listing.add_include(id, included)?;
             includes.push(Include {
                 world: id,

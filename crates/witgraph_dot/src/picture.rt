@@ -1,6 +1,5 @@
 //! The picture of a graph.
 ghost use Rattle.std.specs.Prelude.{◌≡◌, ◌++◌, IfOk, OnOk, string_bytes};
-ghost use Rattle.witgraph_dot.specs.Drawn.{listed_state};
 ghost use Rattle.witgraph_dot.specs.Frames.{frame_texts};
 ghost use Rattle.witgraph_dot.specs.Picture.{chosen_view, note_line, picture_text};
 ghost use Rattle.witgraph_dot.specs.Scene.{view_of};
@@ -8,12 +7,12 @@ ghost use Rattle.witgraph_dot.specs.Scene.{view_of};
 use crate::choice::Choice;
 use crate::drawing::write_arrows;
 use crate::frame::write_frame;
-use crate::listed_graph::ListedGraph;
+use crate::listing::Listing;
 use crate::scene::Scene;
 use crate::texts::Html;
 use std::alloc::{AllocError, Global};
 use std::fmt::Write;
-use wit_resolve_graph::PackageId;
+use wit_resolve_graph::{PackageId, Resolve};
 
 /// What stands before the packages: what frames, interfaces and arrows look like.
 const HEAD: &str = "digraph wit {
@@ -45,15 +44,16 @@ const END: &str = "  </table>>;
 /// of memory.
 pub fn draw(
     alloc: Global,
-    graph: &ListedGraph,
+    resolve: &Resolve,
+    listing: &Listing,
     note: &str,
     choice: &Choice,
 ) -> Result<String, AllocError>
     ensures { IfOk result (λ text.
         string_bytes text
-        ≡ picture_text (chosen_view choice.now (listed_state graph.now)) note.now) }
+        ≡ picture_text (chosen_view choice.now resolve.now.graph listing.now) note.now) }
 {
-    let scene = Scene::of(alloc, &graph.resolve, &graph.listing, choice)?;
+    let scene = Scene::of(alloc, resolve, listing, choice)?;
     let mut text = String::from_str(alloc, HEAD)?;
     write_frames(&scene, &mut text)?;
     write_arrows(alloc, &scene, &mut text)?;

@@ -2,7 +2,7 @@
 ghost use Rattle.std.specs.Prelude.{◌≡◌, ◌++◌, ◌<◌, IfOk, OnOk, length, slice_get};
 ghost use Rattle.wit_graph_data.specs.Queries.{interface_direct_deps};
 ghost use Rattle.witgraph_dot.specs.Bundles.{frame_arrows, frames_of};
-ghost use Rattle.witgraph_dot.specs.Scene.{added_arrows, brought_imports, bundled_imports, export_arrows, import_arrows, import_frames, included_arrows, included_imports, included_worlds, is_included, is_included_by_any, left_imports, listed_arrows, outermost, shown_imports, single_imports, unlisted_arrows, uses_arrows, view_of, world_arrows};
+ghost use Rattle.witgraph_dot.specs.Scene.{added_arrows, brought_imports, bundled_imports, export_arrows, import_arrows, import_frames, included_arrows, included_imports, included_worlds, is_included, is_included_by_any, left_imports, listed_arrows, outermost, shown_imports, single_imports, unlisted_arrows, uses_arrows, view_of, entry_arrows};
 ghost use Rattle.witgraph_dot.specs.declared.arrow.ArrowKind.TheVariants.{Listed};
 ghost use Rattle.witgraph_dot.specs.Shown.{shown_interfaces, shown_worlds};
 
@@ -11,7 +11,7 @@ use crate::bundles::{add_bundle, add_frames, frames_but, frames_of, whole_frames
 use crate::choice::Choice;
 use crate::entries::{own_exports, own_imports};
 use crate::listing::Listing;
-use crate::sets::{are_among, is_among, is_world_among, within, without};
+use crate::sets::{are_among, intersection, is_one_of, is_world_among, without};
 use crate::shown::{shown_interfaces, shown_worlds};
 use std::alloc::{AllocError, Global};
 use wit_resolve_graph::{InterfaceId, Items, Resolve, WorldId};
@@ -71,7 +71,7 @@ impl<'a> Scene<'a> {
     {
         let mut used = Vec::new(alloc);
         for interface in self.resolve.interface_direct_deps(user) {
-            if is_among(&self.interfaces, interface) && !is_among(&used, interface) {
+            if is_one_of(&self.interfaces, interface) && !is_one_of(&used, interface) {
                 used.push(interface)?;
             }
         }
@@ -87,8 +87,8 @@ impl<'a> Scene<'a> {
     }
 
     /// The arrows from a world to what it imports and exports under the ids of interfaces.
-    pub fn world_arrows(&self, alloc: Global, world: WorldId) -> Result<Vec<Arrow>, AllocError>
-        ensures { IfOk result (λ arrows. arrows.items ≡ world_arrows (view_of self.now) world) }
+    pub fn entry_arrows(&self, alloc: Global, world: WorldId) -> Result<Vec<Arrow>, AllocError>
+        ensures { IfOk result (λ arrows. arrows.items ≡ entry_arrows (view_of self.now) world) }
     {
         let mut arrows = Vec::new(alloc);
         if self.only_added {
@@ -105,7 +105,7 @@ impl<'a> Scene<'a> {
         ensures { IfOk result (λ imports. imports.items ≡ shown_imports (view_of self.now) world) }
     {
         let imports = own_imports(alloc, self.resolve, world)?;
-        within(alloc, &imports, &self.interfaces)
+        intersection(alloc, &imports, &self.interfaces)
     }
 
     /// The frames without what a world exports.
@@ -138,7 +138,7 @@ impl<'a> Scene<'a> {
         let included = self.listing.includes_of(alloc, world)?;
         let all = included_imports(alloc, self.resolve, &included)?;
         let left = self.left_imports(alloc, world)?;
-        within(alloc, &left, &all)
+        intersection(alloc, &left, &all)
     }
 
     /// What stands in whole frames of what included worlds import.
@@ -221,7 +221,7 @@ impl<'a> Scene<'a> {
         let frames = self.import_frames(alloc, world)?;
         let single = self.single_imports(alloc, world)?;
         let lines = self.listing.imports_of(alloc, world)?;
-        let listed = within(alloc, &single, &lines)?;
+        let listed = intersection(alloc, &single, &lines)?;
         add_bundle(alloc, frames.as_slice(), ArrowKind::Listed, &listed, arrows)
     }
 
@@ -275,7 +275,7 @@ impl<'a> Scene<'a> {
             (arrows.new.items ≡ arrows.old.items ++ export_arrows (view_of self.now) world) }
     {
         let exports = own_exports(alloc, self.resolve, world)?;
-        let exports = within(alloc, &exports, &self.interfaces)?;
+        let exports = intersection(alloc, &exports, &self.interfaces)?;
         add_bundle(
             alloc,
             self.frames.as_slice(),
@@ -326,7 +326,7 @@ fn outermost(
     listing: &Listing,
     worlds: &[WorldId],
 ) -> Result<Vec<WorldId>, AllocError>
-    ensures { IfOk result (λ left. left.items ≡ outermost listing.now.includes.items worlds.now) }
+    ensures { IfOk result (λ left. left.items ≡ outermost listing.now.includes worlds.now) }
 {
     let mut left = Vec::new(alloc);
     for world in worlds {
@@ -339,7 +339,7 @@ fn outermost(
 
 /// Whether one of some worlds includes a world.
 fn is_included_by_any(listing: &Listing, worlds: &[WorldId], world: WorldId) -> bool
-    ensures { result ≡ is_included_by_any listing.now.includes.items worlds.now world }
+    ensures { result ≡ is_included_by_any listing.now.includes worlds.now world }
 {
     worlds.iter().any(|other| listing.includes(*other, world))
 }

@@ -5,7 +5,7 @@ ghost use Rattle.witgraph_dot.specs.Shown.{entries_of_picked, has_pick, interfac
 
 use crate::choice::{Choice, Pick, is_picked};
 use crate::entries::add_interfaces;
-use crate::sets::is_among;
+use crate::sets::is_one_of;
 use std::alloc::{AllocError, Global};
 use wit_resolve_graph::{
     Interface, InterfaceId, Package, PackageId, Resolve, Text, World, WorldId,
@@ -62,7 +62,7 @@ fn is_interface_shown(
     ensures { result ≡ is_interface_shown choice.now packages.now entries.now id interface.now }
 {
     let picked = choice.shown.as_slice();
-    (picked.is_empty() || interface_has_pick(packages, picked, interface) || is_among(entries, id))
+    (picked.is_empty() || interface_has_pick(packages, picked, interface) || is_one_of(entries, id))
         && !interface_has_pick(packages, choice.hidden.as_slice(), interface)
 }
 

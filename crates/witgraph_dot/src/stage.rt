@@ -1,97 +1,161 @@
 //! A script as it is carried out.
-ghost use Rattle.std.specs.Prelude.{◌≡◌, ◌≢◌, None, Some, IfOk, false, is_some};
-ghost use Rattle.wit_script.specs.Ready.{CanAllBeAsked};
-ghost use Rattle.wit_script.specs.steps.Ready.{CanBeAsked};
-ghost use Rattle.wit_script_lines.specs.declared.request.Request.TheVariants as request;
-ghost use Rattle.witgraph_dot.specs.Drawn.{FollowsAll, graphs, listed_graphs, listed_state, new_listed_state};
-ghost use Rattle.witgraph_dot.specs.Made.{CommandMakes, ScriptMakes};
+ghost use Rattle.std.specs.Prelude.{◌≡◌, Some, IfOk, OnOk, string_bytes};
+ghost use Rattle.wit_graph_data.specs.declared.error_kind.ResolveErrorKind.TheVariants.{OutOfMemory};
+ghost use Rattle.wit_resolve_graph.specs.declared.command.Reply.TheVariants.{Refused};
+ghost use Rattle.witgraph_dot.specs.Made.{CommandMakes, ScriptMakes, came_to_something, joined, new_stage, stage_after, with_working_effect};
 
-use crate::listed_graph::ListedGraph;
-use std::alloc::Global;
+use crate::effect::Effect;
+use crate::listing::Listing;
+use std::alloc::{AllocError, Global};
 use std::mem;
-use wit_resolve_graph::{Items, ResolveResult};
-use wit_script::{ReadyCommand, Request};
+use wit_resolve_graph::{Items, Reply, ResolveError, ResolveErrorKind, ResolveResult};
+use wit_script::ReadyCommand;
+use wit_script_faults::{Outcome, explain_command, next_place};
+use wit_script_places::{CommandPlace, Desk, ScriptLines};
 
-/// The graph of a script on which commands work, and the first one where it waits for `merge`.
+/// The graphs of a script, and what lines list for the worlds of each.
 #[derive(Drop)]
 pub struct Stage {
-    active: ListedGraph,
-    waiting: Option<ListedGraph>,
+    pub desk: Desk,
+    /// For the worlds of the first graph.
+    pub first: Listing,
+    /// For those of the second, nothing where there is none.
+    pub second: Listing,
 }
 
 impl Stage {
-    /// What there is after commands on an empty graph: the graphs that `execute` may have then, with what lines list. The
-    /// only refusal is want of memory, in a command or outside.
-    pub fn after(alloc: Global, commands: Items<ReadyCommand>) -> ResolveResult<Stage>
-        requires { CanAllBeAsked commands false }
-        ensures graphs { IfOk result
-            (λ stage. FollowsAll commands (graphs stage.active stage.waiting)) }
-        ensures made { IfOk result
-            (λ stage. ScriptMakes commands (listed_graphs stage.active stage.waiting)) }
+    /// An empty graph, for whose worlds nothing is listed.
+    fn new(alloc: Global) -> Stage
+        ensures { result ≡ new_stage }
     {
-        let mut stage = Stage {
-            active: ListedGraph::new(alloc),
-            waiting: None,
-        };
+        Stage {
+            desk: Desk::new(alloc),
+            first: Listing::new(alloc),
+            second: Listing::new(alloc),
+        }
+    }
+
+    /// What there is after the commands of a script, on an empty graph, and what is told of them. The only refusal is want
+    /// of memory, in a command or outside.
+    pub fn after(
+        alloc: Global,
+        script: &ScriptLines,
+        commands: Items<ReadyCommand>,
+    ) -> ResolveResult<(Stage, String)>
+        ensures { IfOk result (λ made.
+            ScriptMakes script.now commands (string_bytes made.1) made.0) }
+    {
+        let mut stage = Stage::new(alloc);
+        let mut all = String::new(alloc);
+        let mut places = script.commands.as_slice();
         for command in commands.into_vec() {
-            stage.carry_out(alloc, command)?;
+            let (place, rest) = next_place(script, places);
+            let text = stage.carry_out(alloc, script, &place, command)?;
+            all.push_str(&text)?;
+            places = rest;
         }
-        Ok(stage)
+        Ok((stage, all))
     }
 
-    /// The graph that is there at the end of a script.
-    pub fn first(&self) -> &ListedGraph
-        ensures { listed_state result.now ≡ (listed_graphs self.now.active self.now.waiting).first }
+    /// Carries out a command, which stands at this place, and answers what is told of it. The only refusal is want of
+    /// memory, in the command or outside.
+    fn carry_out(
+        &mut self,
+        alloc: Global,
+        script: &ScriptLines,
+        place: &CommandPlace,
+        command: ReadyCommand,
+    ) -> ResolveResult<String>
+        ensures { IfOk result (λ text.
+            CommandMakes script.now place.now self.old command (string_bytes text) self.new) }
     {
-        match &self.waiting {
-            Some(first) => first,
-            None => &self.active,
-        }
+        let request = command.into_request();
+        let effect = Effect::of_request(alloc, &self.desk, &request)?;
+        let command = ReadyCommand::new(request);
+        let Outcome { reply, text } = explain_command(
+            alloc,
+            script,
+            place,
+            &mut self.desk,
+            command,
+        )?;
+        check_memory(&reply)?;
+        self.list(alloc, &effect, &reply)?;
+        Ok(text)
     }
 
-    /// Carries out a command, and answers whether it came to something. All worlds are drawn, so nothing is to be printed or
-    /// chosen.
-    fn carry_out(&mut self, alloc: Global, command: ReadyCommand) -> ResolveResult<bool>
-        requires { CanBeAsked command (is_some self.old.waiting) }
-        ensures { IfOk result (λ done.
-            CommandMakes (listed_graphs self.old.active self.old.waiting) command done
-            (listed_graphs self.new.active self.new.waiting)) }
+    /// Lists what a command lists, by its reply.
+    fn list(
+        &mut self,
+        alloc: Global,
+        effect: &Effect,
+        reply: &Option<Reply>,
+    ) -> Result<(), AllocError>
+        ensures { OnOk result (self.new
+            ≡ stage_after effect.now reply.now self.old.desk self.old.first self.old.second) }
     {
-        match command.into_request() {
-            Request::Change(change) => self.active.change(alloc, change),
-            Request::Other => {
-                self.begin_other(alloc);
-                Ok(true)
+        match effect {
+            Effect::Opens => {
+                self.second = Listing::new(alloc);
+                Ok(())
             }
-            Request::Merge => self.merge(alloc),
-            Request::Print { .. } => Ok(true),
-            Request::Select { .. } => Ok(true),
-        }
-    }
-
-    /// `other`: commands work on an empty graph, and the first one waits.
-    fn begin_other(&mut self, alloc: Global)
-        requires { self.old.waiting ≡ None }
-        ensures { listed_graphs self.new.active self.new.waiting
-            ≡ record { first = listed_state self.old.active; second = Some new_listed_state } }
-    {
-        let first = mem::replace(&mut self.active, ListedGraph::new(alloc));
-        self.waiting = Some(first);
-    }
-
-    /// `merge`: the second graph goes into the first, and is no longer there, whether it is refused or not.
-    fn merge(&mut self, alloc: Global) -> ResolveResult<bool>
-        requires { self.old.waiting ≢ None }
-        ensures { IfOk result (λ done.
-            CommandMakes (listed_graphs self.old.active self.old.waiting) request.Merge done
-            (listed_graphs self.new.active self.new.waiting)) }
-    {
-        match self.waiting.take() {
-            Some(first) => {
-                let second = mem::replace(&mut self.active, first);
-                self.active.merge(alloc, second)
+            Effect::Joins => {
+                let second = mem::replace(&mut self.second, Listing::new(alloc));
+                join(&mut self.first, &second, reply)
             }
-            None => unreachable!(),
+            effect => {
+                if came_to_something(reply) {
+                    self.apply(alloc, effect)?;
+                }
+                Ok(())
+            }
         }
+    }
+
+    /// Lists what a command lists that came to something, on the graph on which commands work.
+    fn apply(&mut self, alloc: Global, effect: &Effect) -> Result<(), AllocError>
+        ensures { OnOk result (self.new
+            ≡ with_working_effect self.old.desk effect.now self.old.desk.second self.old.first
+            self.old.second) }
+    {
+        match &self.desk.second {
+            Some(second) => effect.apply(alloc, &second.resolve, &mut self.second),
+            None => effect.apply(alloc, &self.desk.first.resolve, &mut self.first),
+        }
+    }
+}
+
+/// Lists for the first graph what the second lists, by the reply to the merge.
+fn join(first: &mut Listing, second: &Listing, reply: &Option<Reply>) -> Result<(), AllocError>
+    ensures { OnOk result (first.new ≡ joined reply.now first.old second.now) }
+{
+    match reply {
+        Some(Reply::Merged(remap)) => first.merge(second, remap),
+        _ => Ok(()),
+    }
+}
+
+/// Whether a command came to something, by its reply.
+fn came_to_something(reply: &Option<Reply>) -> bool
+    ensures { result ≡ came_to_something reply.now }
+{
+    match reply {
+        Some(Reply::Refused(_)) => false,
+        Some(Reply::NoWorld) => false,
+        Some(_) => true,
+        None => false,
+    }
+}
+
+/// Refuses want of memory in a command: nothing is drawn then, since with more memory the graph is another.
+fn check_memory(reply: &Option<Reply>) -> ResolveResult<()>
+    ensures { OnOk result (reply.now ≡ Some (Refused OutOfMemory) → ⊥) }
+{
+    match reply {
+        Some(Reply::Refused(refusal)) => match refusal.kind() {
+            ResolveErrorKind::OutOfMemory => Err(ResolveError::from(AllocError)),
+            _ => Ok(()),
+        },
+        _ => Ok(()),
     }
 }

@@ -1,20 +1,20 @@
 //! Interfaces at several versions.
 ghost use Rattle.std.specs.Prelude.{◌≡◌, IfOk};
 ghost use Rattle.std.specs.List.{list_any};
-ghost use Rattle.witgraph_dot.specs.Tracks.{are_of_one_base, are_on_one_track, are_versions_of_one, are_versions_by_name, is_version_of_any};
+ghost use Rattle.witgraph_dot.specs.Tracks.{are_of_one_base, have_one_track, are_versions_of_one, are_versions_by_name, is_version_of_any};
 
 use crate::names::full_name;
 use std::alloc::{AllocError, Global};
 use wit_resolve_graph::{InterfaceId, PackageName, Resolve, TrackRule, Version};
 
 /// Whether both versions are there and stand on one track. The only error is want of memory.
-fn are_on_one_track(
+fn have_one_track(
     alloc: Global,
     rule: TrackRule,
     one: &Option<Version>,
     other: &Option<Version>,
 ) -> Result<bool, AllocError>
-    ensures { IfOk result (λ are. are ≡ are_on_one_track rule one.now other.now) }
+    ensures { IfOk result (λ are. are ≡ have_one_track rule one.now other.now) }
 {
     match (one, other) {
         (Some(one), Some(other)) => {
@@ -47,7 +47,7 @@ fn are_versions_of_one(
     match (full_name(resolve, one), full_name(resolve, other)) {
         (Some((one, name)), Some((other, other_name))) => {
             let are_one = name == other_name && are_of_one_base(one, other);
-            let on_track = are_on_one_track(
+            let on_track = have_one_track(
                 alloc,
                 resolve.track_rule(),
                 &one.version,

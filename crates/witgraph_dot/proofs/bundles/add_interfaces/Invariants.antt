@@ -1,7 +1,7 @@
 use Rattle.std.proofs.Common.{◌≡◌, ◌++◌, take}
-use Rattle.witgraph_dot.specs.Bundles.{interface_arrows}
+use Rattle.witgraph_dot.specs.Bundles.{arrows_to_interfaces}
 use Rattle.witgraph_dot.proofs.bundles.add_interfaces.Given as goal
 
 -- the arrows so far
 abbrev pub invariant-loop-id : goal.invariant-loop-id
-invariant-loop-id l = l.arrows.items ≡ l.fn.arrows.items ++ interface_arrows l.kind (take l.id-index l.targets)
+invariant-loop-id l = l.arrows.items ≡ l.fn.arrows.items ++ arrows_to_interfaces l.kind (take l.id-index l.targets)

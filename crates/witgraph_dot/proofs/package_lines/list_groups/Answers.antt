@@ -12,9 +12,9 @@ loop-round-preserved c =
     let after = c.list_included.new.listing in
     record {
       listed =
-          rounds-left with_brought_imports includes rounds round before.imports.items after.imports.items _ c.loop-round-test.true c.loop-round.invariant.listed
-          (c.in_ok-list_included.ensures.imports ∙ ap (fold with_brought_imports before.imports.items) c.deref.ensures.value);
+          rounds-left with_brought_imports includes rounds round before.imports after.imports _ c.loop-round-test.true c.loop-round.invariant.listed
+          (c.in_ok-list_included.ensures.imports ∙ ap (fold with_brought_imports before.imports) c.deref.ensures.value);
       added =
-          rounds-left with_brought_includes includes rounds round before.includes.items after.includes.items _ c.loop-round-test.true c.loop-round.invariant.added
-          (c.in_ok-list_included.ensures.includes ∙ ap (fold with_brought_includes before.includes.items) c.deref.ensures.value);
+          rounds-left with_brought_includes includes rounds round before.includes after.includes _ c.loop-round-test.true c.loop-round.invariant.added
+          (c.in_ok-list_included.ensures.includes ∙ ap (fold with_brought_includes before.includes) c.deref.ensures.value);
     }

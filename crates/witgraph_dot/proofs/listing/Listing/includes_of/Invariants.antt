@@ -4,4 +4,4 @@ use Rattle.witgraph_dot.proofs.listing.Listing.includes_of.Given as goal
 
 -- those of the includes so far
 abbrev pub invariant-loop-include : goal.invariant-loop-include
-invariant-loop-include l = l.worlds.items ≡ includes_of l.world (take l.include-index l.self.includes.items)
+invariant-loop-include l = l.worlds.items ≡ includes_of l.world (take l.include-index l.include-items)

@@ -4,4 +4,4 @@ use Rattle.witgraph_dot.proofs.listing.Listing.replace.Given as goal
 
 -- those of the imports so far that are of other worlds
 abbrev pub invariant-loop-import : goal.invariant-loop-import
-invariant-loop-import l = l.imports.items ≡ others_of l.world (take l.import-index l.fn.self.imports.items)
+invariant-loop-import l = l.imports ≡ others_of l.world (take l.import-index l.import-items)

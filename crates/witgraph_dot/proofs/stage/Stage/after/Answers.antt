@@ -1,29 +1,22 @@
-use Rattle.std.proofs.Common.{◌≡◌, ◌∷◌, List, is_some, rules, subst}
-use Rattle.std.specs.Vec.Iter.{into_iter_items}
-use Rattle.wit_script.specs.Ready.{CanAllBeAsked}
-use Rattle.wit_script_lines.specs.declared.request.Request.{Request}
-use Rattle.wit_script.specs.facts.Waiting.{first-comes}
-use Rattle.witgraph_dot.specs.Drawn.{graphs_of, listed_graphs, new_listed_state, only_listed}
-use Rattle.witgraph_dot.proofs.Staged.{AllMake-more, FollowsAll-more, command-answers, others-wait}
+use Rattle.std.proofs.Common.{◌≡◌, ◌++◌, ◌∙◌, ◌∷◌, [], ap, sym, subst, string_bytes, ℕ, List}
+use Rattle.wit_script_faults.specs.Explained.{place_of, rest_of}
+use Rattle.wit_script_places.specs.declared.lines.CommandPlace.{CommandPlace}
+use Rattle.witgraph_dot.proofs.Staged.{AllMake-more, rest_after-more}
 use Rattle.witgraph_dot.proofs.stage.Stage.after.Goals as goal
-
-pub carry_out-requires : goal.carry_out-requires
-carry_out-requires c =
-    let left : into_iter_items c.loop-command.command-iterator ≡ c.in-Some.command ∷ into_iter_items c.next.new.self = search rules in
-    first-comes c.in-Some.command (into_iter_items c.next.new.self) (is_some c.loop-command.stage.waiting)
-    (subst (λ (l : List Request). CanAllBeAsked l (is_some c.loop-command.stage.waiting)) left c.loop-command.invariant.come)
+use Rattle.witgraph_dot.specs.Made.{AllMake, CommandMakes, new_stage}
 
 pub loop-command-preserved : goal.loop-command-preserved
 loop-command-preserved c =
-    let left : into_iter_items c.loop-command.command-iterator ≡ c.in-Some.command ∷ into_iter_items c.next.new.self = search rules in
-    let before = listed_graphs c.loop-command.stage.active c.loop-command.stage.waiting in
-    let after = listed_graphs c.carry_out.new.self.active c.carry_out.new.self.waiting in
-    let follows = command-answers before after c.in_ok-carry_out.field-0 c.in-Some.command c.in_ok-carry_out.ensures in
+    let script = c.args.script.now in
+    let before = c.loop-command.stage in
+    let after = c.carry_out.new.self in
+    let text = string_bytes c.in_ok-text.text in
+    let longer : string_bytes c.push_str.new.self ≡ string_bytes c.loop-command.all ++ text =
+    c.in_ok-push_str.ensures.bytes ∙ ap (λ (t : List ℕ). string_bytes c.loop-command.all ++ t) c.deref.ensures in
+    let made = subst (λ (p : CommandPlace). CommandMakes script p before c.in-Some.command text after)
+    (c.next_place.ensures.first ∙ ap (place_of script) c.loop-command.invariant.places) c.in_ok-text.ensures in
     record {
-      followed = FollowsAll-more c.loop-command.yielded c.in-Some.command (graphs_of before) (graphs_of after) c.loop-command.invariant.followed follows;
-      made = AllMake-more (only_listed new_listed_state) before after c.loop-command.yielded c.in-Some.command c.in_ok-carry_out.field-0 c.loop-command.invariant.made c.in_ok-carry_out.ensures;
-      come =
-          others-wait c.loop-command.stage.active c.carry_out.new.self.active c.loop-command.stage.waiting c.carry_out.new.self.waiting c.in-Some.command
-          (into_iter_items c.next.new.self) follows
-          (subst (λ (l : List Request). CanAllBeAsked l (is_some c.loop-command.stage.waiting)) left c.loop-command.invariant.come);
+      made = subst (λ (t : List ℕ). AllMake script script.commands new_stage (c.loop-command.yielded ++ c.in-Some.command ∷ []) t after) (sym longer)
+          (AllMake-more script script.commands new_stage before after c.loop-command.yielded c.in-Some.command (string_bytes c.loop-command.all) text c.loop-command.invariant.made made);
+      places = c.next_place.ensures.rest ∙ ap rest_of c.loop-command.invariant.places ∙ rest_after-more script.commands c.loop-command.yielded c.in-Some.command;
     }

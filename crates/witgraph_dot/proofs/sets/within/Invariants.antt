@@ -1,7 +1,0 @@
-use Rattle.std.proofs.Common.{◌≡◌, take}
-use Rattle.witgraph_dot.specs.Sets.{within}
-use Rattle.witgraph_dot.proofs.sets.within.Given as goal
-
--- those so far
-abbrev pub invariant-loop-id : goal.invariant-loop-id
-invariant-loop-id l = l.left.items ≡ within (take l.id-index l.interfaces) l.others
