@@ -46,7 +46,12 @@ RUNS = {
         (["document.json"], DOCUMENT, True, 2, b"", USAGE + ANY),
         (["a name that is longer than any option"], DOCUMENT, True, 2, b"", USAGE + ANY),
     ],
-    "witgraph_dot": [([], NO_SCRIPT, True, 1, REASON), ([], NO_UTF8, True, 1, b""), ([], None, True, 1, b""), ([], SCRIPT, False, 1, b"")],
+    "witgraph_dot": [
+        ([], NO_SCRIPT, True, 1, REASON),
+        ([], NO_UTF8, True, 1, b"", b"witgraph_dot: the script isn't UTF-8\n"),
+        ([], None, True, 1, b"", b"witgraph_dot: the script can't be read\n"),
+        ([], SCRIPT, False, 1, b"", b"witgraph_dot: the picture can't be written\n"),
+    ],
 }
 
 

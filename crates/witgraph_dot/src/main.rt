@@ -42,6 +42,7 @@ use wit_resolve_graph::{ResolveError, ResolveResult};
 use wit_script::{ReadFault, read_script};
 use wit_script_faults::misread;
 use wit_script_places::script_lines;
+use wit_streams::{StreamFault, Watched, exit_status, read_all, write_all};
 
 /// Whether a script is understood, and its picture, or why it isn't. The only refusal is want of memory, in a command or
 /// outside.
@@ -61,17 +62,36 @@ fn answer(alloc: Global, script: &str) -> ResolveResult<(bool, String)>
     }
 }
 
-/// Status 0 where the script was understood and drawn, else 1; want of memory is told on standard error.
-fn main(rt: HostRuntime) -> ExitCode {
-    let Ok(script) = io::read_to_string(rt.alloc(), rt.reader()) else {
-        return ExitCode::FAILURE;
+/// Draws the script of standard input, and answers whether it is understood.
+fn draw_input(rt: &HostRuntime) -> Result<bool, StreamFault> {
+    let mut reader = Watched::new(rt.reader());
+    let bytes = read_all(rt.alloc(), &mut reader)?;
+    let Ok(script) = str::from_utf8(&bytes) else {
+        return Err(StreamFault::NotUtf8);
     };
-    let Ok((is_understood, text)) = answer(rt.alloc(), script.as_str()) else {
-        let _is_told = eprintln!(rt; "out of memory: nothing is drawn");
-        return ExitCode::FAILURE;
+    let Ok((is_understood, text)) = answer(rt.alloc(), script) else {
+        return Err(StreamFault::OutOfMemory);
     };
-    match print!(rt; "{text}") {
-        Ok(()) if is_understood => ExitCode::SUCCESS,
-        _ => ExitCode::FAILURE,
+    let mut writer = Watched::new(io::writer(rt));
+    write_all(&mut writer, &text)?;
+    Ok(is_understood)
+}
+
+/// Why nothing, or not all, is written.
+fn reason(fault: StreamFault) -> &'static str {
+    match fault {
+        StreamFault::Read => "the script can't be read",
+        StreamFault::Write => "the picture can't be written",
+        StreamFault::NotUtf8 => "the script isn't UTF-8",
+        StreamFault::OutOfMemory => "out of memory: nothing is drawn",
     }
+}
+
+/// Status 0 where the script was understood and drawn, else 1. Standard error says why nothing, or not all, is written.
+fn main(rt: HostRuntime) -> ExitCode {
+    let drawn = draw_input(&rt);
+    if let Err(fault) = drawn {
+        let _is_told = eprintln!(rt; "witgraph_dot: {}", reason(fault));
+    }
+    ExitCode::from(exit_status(drawn))
 }
