@@ -1,9 +1,10 @@
 //! A graph of which a picture is drawn, with what of it is shown, and which arrows there are.
 ghost use Rattle.std.specs.Prelude.{◌≡◌, ◌++◌, ◌<◌, IfOk, OnOk, length, slice_get};
 ghost use Rattle.wit_graph_data.specs.Queries.{interface_direct_deps};
-ghost use Rattle.witgraph_dot.specs.Bundles.{frame_arrows, frames_of};
-ghost use Rattle.witgraph_dot.specs.Scene.{added_arrows, brought_imports, bundled_imports, export_arrows, import_arrows, import_frames, included_arrows, included_imports, included_worlds, is_included, is_included_by_any, left_imports, listed_arrows, outermost, shown_imports, single_imports, unlisted_arrows, uses_arrows, view_of, entry_arrows};
-ghost use Rattle.witgraph_dot.specs.declared.arrow.ArrowKind.TheVariants.{Listed};
+ghost use Rattle.witgraph_dot.specs.Bundles.{frames_of};
+ghost use Rattle.witgraph_dot.specs.Listed.{includes_of};
+ghost use Rattle.witgraph_dot.specs.Sets.{intersection, without};
+ghost use Rattle.witgraph_dot.specs.Scene.{added_arrows, brought_imports, export_arrows, import_arrows, import_frames, included_arrows, included_imports, included_worlds, is_included, is_included_by_any, left_imports, outermost, shown_imports, uses_arrows, view_of, entry_arrows};
 ghost use Rattle.witgraph_dot.specs.Shown.{shown_interfaces, shown_worlds};
 
 use crate::arrow::{Arrow, ArrowKind, Target};
@@ -120,44 +121,37 @@ impl<'a> Scene<'a> {
         frames_but(alloc, self.frames.as_slice(), &exports)
     }
 
-    /// Of what a world imports, that to which no arrow to an included world leads.
-    fn left_imports(&self, alloc: Global, world: WorldId) -> Result<Vec<InterfaceId>, AllocError>
-        ensures { IfOk result (λ left. left.items ≡ left_imports (view_of self.now) world) }
+    /// Of what a world imports, that to which no arrow to one of these included worlds leads.
+    fn left_imports(
+        &self,
+        alloc: Global,
+        world: WorldId,
+        included: &[WorldId],
+    ) -> Result<Vec<InterfaceId>, AllocError>
+        ensures { IfOk result (λ left. left.items
+            ≡ without (shown_imports (view_of self.now) world)
+            (included_imports self.now.resolve.now.graph.worlds included.now)) }
     {
-        let included = self.included_worlds(alloc, world)?;
-        let meant = included_imports(alloc, self.resolve, &included)?;
+        let meant = included_imports(alloc, self.resolve, included)?;
         let imports = self.shown_imports(alloc, world)?;
         without(alloc, &imports, &meant)
     }
 
-    /// Of that what included worlds import, shown or not.
-    fn brought_imports(&self, alloc: Global, world: WorldId) -> Result<Vec<InterfaceId>, AllocError>
-        ensures { IfOk result
-            (λ brought. brought.items ≡ brought_imports (view_of self.now) world) }
+    /// Of these imports of a world what included worlds import, shown or not.
+    fn brought_imports(
+        &self,
+        alloc: Global,
+        world: WorldId,
+        left: &[InterfaceId],
+    ) -> Result<Vec<InterfaceId>, AllocError>
+        ensures { IfOk result (λ brought. brought.items
+            ≡ intersection left.now
+            (included_imports self.now.resolve.now.graph.worlds
+            (includes_of world self.now.listing.now.includes))) }
     {
         let included = self.listing.includes_of(alloc, world)?;
         let all = included_imports(alloc, self.resolve, &included)?;
-        let left = self.left_imports(alloc, world)?;
-        intersection(alloc, &left, &all)
-    }
-
-    /// What stands in whole frames of what included worlds import.
-    fn bundled_imports(&self, alloc: Global, world: WorldId) -> Result<Vec<InterfaceId>, AllocError>
-        ensures { IfOk result
-            (λ bundled. bundled.items ≡ bundled_imports (view_of self.now) world) }
-    {
-        let frames = self.import_frames(alloc, world)?;
-        let brought = self.brought_imports(alloc, world)?;
-        whole_frames(alloc, frames.as_slice(), &brought)
-    }
-
-    /// Of what is left that which stands in none of these.
-    fn single_imports(&self, alloc: Global, world: WorldId) -> Result<Vec<InterfaceId>, AllocError>
-        ensures { IfOk result (λ single. single.items ≡ single_imports (view_of self.now) world) }
-    {
-        let bundled = self.bundled_imports(alloc, world)?;
-        let left = self.left_imports(alloc, world)?;
-        without(alloc, &left, &bundled)
+        intersection(alloc, left, &all)
     }
 
     /// Adds the arrows to the imports that elaboration added, where these are shown alone.
@@ -177,78 +171,8 @@ impl<'a> Scene<'a> {
         add_bundle(alloc, frames.as_slice(), ArrowKind::Added, &added, arrows)
     }
 
-    /// Adds the arrows to worlds that a world includes.
-    fn add_included(
-        &self,
-        alloc: Global,
-        world: WorldId,
-        arrows: &mut Vec<Arrow>,
-    ) -> Result<(), AllocError>
-        ensures { OnOk result (arrows.new.items
-            ≡ arrows.old.items ++ included_arrows (included_worlds (view_of self.now) world)) }
-    {
-        let included = self.included_worlds(alloc, world)?;
-        add_worlds(&included, arrows)
-    }
-
-    /// Adds the arrows to whole frames that included worlds import.
-    fn add_brought(
-        &self,
-        alloc: Global,
-        world: WorldId,
-        arrows: &mut Vec<Arrow>,
-    ) -> Result<(), AllocError>
-        ensures { OnOk result (arrows.new.items
-            ≡ arrows.old.items
-            ++ frame_arrows (import_frames (view_of self.now) world) Listed
-            (brought_imports (view_of self.now) world)) }
-    {
-        let frames = self.import_frames(alloc, world)?;
-        let brought = self.brought_imports(alloc, world)?;
-        add_frames(frames.as_slice(), ArrowKind::Listed, &brought, arrows)
-    }
-
-    /// Adds the arrows to what lines list, of what is left.
-    fn add_listed(
-        &self,
-        alloc: Global,
-        world: WorldId,
-        arrows: &mut Vec<Arrow>,
-    ) -> Result<(), AllocError>
-        ensures { OnOk result
-            (arrows.new.items ≡ arrows.old.items ++ listed_arrows (view_of self.now) world) }
-    {
-        let frames = self.import_frames(alloc, world)?;
-        let single = self.single_imports(alloc, world)?;
-        let lines = self.listing.imports_of(alloc, world)?;
-        let listed = intersection(alloc, &single, &lines)?;
-        add_bundle(alloc, frames.as_slice(), ArrowKind::Listed, &listed, arrows)
-    }
-
-    /// Adds the arrows to what elaboration added, of what is left.
-    fn add_unlisted(
-        &self,
-        alloc: Global,
-        world: WorldId,
-        arrows: &mut Vec<Arrow>,
-    ) -> Result<(), AllocError>
-        ensures { OnOk result
-            (arrows.new.items ≡ arrows.old.items ++ unlisted_arrows (view_of self.now) world) }
-    {
-        let frames = self.import_frames(alloc, world)?;
-        let single = self.single_imports(alloc, world)?;
-        let lines = self.listing.imports_of(alloc, world)?;
-        let unlisted = without(alloc, &single, &lines)?;
-        add_bundle(
-            alloc,
-            frames.as_slice(),
-            ArrowKind::Added,
-            &unlisted,
-            arrows,
-        )
-    }
-
-    /// Adds the arrows to what a world imports.
+    /// Adds the arrows to what a world imports: to worlds that it includes, to whole frames that these import, and of what is
+    /// left to what lines list and to what elaboration added.
     fn add_imports(
         &self,
         alloc: Global,
@@ -258,10 +182,20 @@ impl<'a> Scene<'a> {
         ensures { OnOk result
             (arrows.new.items ≡ arrows.old.items ++ import_arrows (view_of self.now) world) }
     {
-        self.add_included(alloc, world, arrows)?;
-        self.add_brought(alloc, world, arrows)?;
-        self.add_listed(alloc, world, arrows)?;
-        self.add_unlisted(alloc, world, arrows)
+        let frames = self.import_frames(alloc, world)?;
+        let frames = frames.as_slice();
+        let included = self.included_worlds(alloc, world)?;
+        let left = self.left_imports(alloc, world, &included)?;
+        let brought = self.brought_imports(alloc, world, &left)?;
+        let bundled = whole_frames(alloc, frames, &brought)?;
+        let single = without(alloc, &left, &bundled)?;
+        let lines = self.listing.imports_of(alloc, world)?;
+        let listed = intersection(alloc, &single, &lines)?;
+        let unlisted = without(alloc, &single, &lines)?;
+        add_worlds(&included, arrows)?;
+        add_frames(frames, ArrowKind::Listed, &brought, arrows)?;
+        add_bundle(alloc, frames, ArrowKind::Listed, &listed, arrows)?;
+        add_bundle(alloc, frames, ArrowKind::Added, &unlisted, arrows)
     }
 
     /// Adds the arrows to what a world exports.
