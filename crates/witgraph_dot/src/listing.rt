@@ -1,5 +1,5 @@
 //! The imports that lines list, and the worlds that they include.
-ghost use Rattle.std.specs.Prelude.{◌≡◌, IfOk, OnOk, filter_map};
+ghost use Rattle.std.specs.Prelude.{◌≡◌, IfOk, OnOk, filter_map, length};
 ghost use Rattle.witgraph_dot.specs.Listed.{imports_of, has_include, includes_of, lists, merged_listing, moved_import, moved_include, new_listing, others_of, and_import, and_imports, and_include, and_includes};
 
 use std::alloc::{AllocError, Global};
@@ -63,6 +63,13 @@ impl Listing {
             imports: Items::new(alloc),
             includes: Items::new(alloc),
         }
+    }
+
+    /// How many imports and includes there are.
+    pub fn sizes(&self) -> (usize, usize)
+        ensures { result ≡ (length self.now.imports, length self.now.includes) }
+    {
+        (self.imports.len(), self.includes.len())
     }
 
     /// Whether a line lists this interface for this world.

@@ -27,9 +27,14 @@ pub fn list_groups(
         list_package(resolve, &group.main, listing, &mut includes)?;
         list_packages(resolve, group.nested.as_slice(), listing, &mut includes)?;
     }
-    // A world that includes another gets what that has by then, so a chain of includes takes as many rounds as it has links.
+    // A world that includes another gets what that has by then, so a chain of includes may take as many rounds as it has
+    // links. A round that adds nothing is the last one.
     for _round in 0..includes.len() {
+        let before = listing.sizes();
         list_included(alloc, &includes, listing)?;
+        if listing.sizes() == before {
+            return Ok(());
+        }
     }
     Ok(())
 }
