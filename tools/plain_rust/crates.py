@@ -11,7 +11,7 @@ LIBRARIES = (
     "wit_items",
     "wit_ways",
     "wit_script",
-    "wit_script_faults",
+    "wit_script_explain",
     "wit_json",
     "wit_json_reading",
     "wit_json_commands",

@@ -9,7 +9,7 @@
 use std::alloc::Global;
 use std::io;
 use std::process::ExitCode;
-use wit_script_faults::explain_text;
+use wit_script_explain::explain_text;
 
 /// The script of a case, and what is to be told of it, where that is said.
 fn parts(case: &str) -> (&str, Option<&str>) {

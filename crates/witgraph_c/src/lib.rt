@@ -6,7 +6,7 @@ ghost use Rattle.std.specs.Prelude.{◌≡◌, ◌≤◌, true, false};
 ghost use Rattle.std.specs.Str.{IsUtf8};
 ghost use Rattle.wit_json_commands.specs.Documents.{ComesOutOfBytes};
 ghost use Rattle.wit_script.specs.Prints.{Prints};
-ghost use Rattle.wit_script_faults.specs.Explained.{Explains};
+ghost use Rattle.wit_script_explain.specs.Explained.{Explains};
 ghost use Rattle.witgraph_calls.specs.Output.{IsTooLong, IsWritten};
 
 use std::alloc::Global;

@@ -1,16 +1,16 @@
 //! The refusals of a script and what its commands don't find, each with its line.
 ghost use Rattle.std.specs.Prelude.{◌≡◌, ◌≤◌, true, false};
 ghost use Rattle.std.specs.Str.{IsUtf8};
-ghost use Rattle.wit_script_faults.specs.Explained.{Explains};
+ghost use Rattle.wit_script_explain.specs.Explained.{Explains};
 ghost use Rattle.witgraph_calls.specs.Output.{IsTooLong, IsWritten};
 
 use crate::output::{none_needed, put_text};
 use crate::status::{INPUT_NOT_UTF8, NO_MEMORY, NOT_UNDERSTOOD, OUTPUT_TOO_SMALL, UNDERSTOOD};
 use std::alloc::Global;
-use wit_script_faults::explain_text;
+use wit_script_explain::explain_text;
 
 /// Runs a script on an empty graph, and writes its refusals and what its commands don't find to the front of the output,
-/// each with its lines, as `explain_text` of `wit_script_faults` tells them. Nothing is written of a script whose commands
+/// each with its lines, as `explain_text` of `wit_script_explain` tells them. Nothing is written of a script whose commands
 /// all come to something; of one that isn't understood, the line at which it isn't and why.
 ///
 /// All else is as of `execute`.

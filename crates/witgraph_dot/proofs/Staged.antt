@@ -6,10 +6,10 @@ use Rattle.wit_graph_data.specs.declared.error_kind.ResolveErrorKind.{ResolveErr
 use Rattle.wit_graph_data.specs.declared.error_kind.ResolveErrorKind.TheVariants.{OutOfMemory}
 use Rattle.wit_resolve_graph.specs.declared.command.Reply.{Reply}
 use Rattle.wit_resolve_graph.specs.declared.command.Reply.TheVariants as reply
-use Rattle.wit_script_faults.specs.Explained.{place_of, rest_of}
+use Rattle.wit_script_explain.specs.Explained.{place_of, rest_of}
 use Rattle.wit_script_lines.specs.declared.request.Request.{Request}
-use Rattle.wit_script_places.specs.declared.lines.CommandPlace.{CommandPlace}
-use Rattle.wit_script_places.specs.declared.lines.ScriptLines.{ScriptLines}
+use Rattle.wit_script_explain.specs.declared.lines.CommandPlace.{CommandPlace}
+use Rattle.wit_script_explain.specs.declared.lines.ScriptLines.{ScriptLines}
 use Rattle.witgraph_dot.specs.Made.{AllMake, CommandMakes}
 use Rattle.witgraph_dot.specs.declared.listing.Import.{Import}
 use Rattle.witgraph_dot.specs.declared.listing.Include.{Include}

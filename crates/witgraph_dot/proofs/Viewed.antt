@@ -5,8 +5,8 @@ use Rattle.wit_resolve_graph.specs.State.{State}
 use Rattle.wit_script.specs.Script.{IsUnderstood}
 use Rattle.wit_script_lines.specs.Line.{lines_of}
 use Rattle.wit_script_lines.specs.declared.request.Request.{Request}
-use Rattle.wit_script_places.specs.Lines.{script_lines_of}
-use Rattle.wit_script_places.specs.declared.lines.ScriptLines.{ScriptLines}
+use Rattle.wit_script_explain.specs.Lines.{script_lines_of}
+use Rattle.wit_script_explain.specs.declared.lines.ScriptLines.{ScriptLines}
 use Rattle.witgraph_dot.specs.Bundles.{frames_of}
 use Rattle.witgraph_dot.specs.Choice.{choice_of}
 use Rattle.witgraph_dot.specs.Made.{ScriptMakes}

@@ -3,13 +3,13 @@ use Rattle.std.specs.Prelude.{◌≡◌, ℕ, Bool, true, false, List, [], ◌�
 use Rattle.wit_graph_data.specs.declared.error_kind.ResolveErrorKind.TheVariants.{OutOfMemory}
 use Rattle.wit_resolve_graph.specs.declared.command.Reply.{Reply}
 use Rattle.wit_resolve_graph.specs.declared.command.Reply.TheVariants as reply
-use Rattle.wit_script_faults.specs.Explained.{ExplainsCommand, place_of, rest_of}
+use Rattle.wit_script_explain.specs.Explained.{ExplainsCommand, place_of, rest_of}
 use Rattle.wit_script_lines.specs.declared.request.Request.{Request}
-use Rattle.wit_script_places.specs.Desk.{new_desk, working}
-use Rattle.wit_script_places.specs.declared.desk.Desk.{Desk}
-use Rattle.wit_script_places.specs.declared.desk.TrackedGraph.{TrackedGraph}
-use Rattle.wit_script_places.specs.declared.lines.CommandPlace.{CommandPlace}
-use Rattle.wit_script_places.specs.declared.lines.ScriptLines.{ScriptLines}
+use Rattle.wit_script_explain.specs.Desk.{new_desk, working}
+use Rattle.wit_script_explain.specs.declared.desk.Desk.{Desk}
+use Rattle.wit_script_explain.specs.declared.desk.TrackedGraph.{TrackedGraph}
+use Rattle.wit_script_explain.specs.declared.lines.CommandPlace.{CommandPlace}
+use Rattle.wit_script_explain.specs.declared.lines.ScriptLines.{ScriptLines}
 use Rattle.witgraph_dot.specs.Effects.{request_effect, with_effect}
 use Rattle.witgraph_dot.specs.Listed.{merged_listing, new_listing}
 use Rattle.witgraph_dot.specs.declared.effect.Effect.{Effect}

@@ -3,9 +3,9 @@ use Rattle.std.specs.Prelude.{◌≡◌, ◌==◌, ℕ, Bool, true, false, List,
 use Rattle.wit_graph_data.specs.declared.graph.Graph.{Graph}
 use Rattle.wit_script.specs.Script.{IsUnderstood}
 use Rattle.wit_script_lines.specs.declared.request.Request.{Request}
-use Rattle.wit_script_faults.specs.Explained.{ExplainsMisread}
+use Rattle.wit_script_explain.specs.Explained.{ExplainsMisread}
 use Rattle.wit_script_lines.specs.Line.{lines_of}
-use Rattle.wit_script_places.specs.Lines.{script_lines_of}
+use Rattle.wit_script_explain.specs.Lines.{script_lines_of}
 use Rattle.witgraph_dot.specs.Bundles.{frames_of}
 use Rattle.witgraph_dot.specs.Choice.{choice_of}
 use Rattle.witgraph_dot.specs.Frames.{frame_texts}

@@ -1,7 +1,7 @@
 //! What a command lists for worlds if it comes to something.
 ghost use Rattle.std.specs.Prelude.{◌≡◌, ◌∷◌, IfOk, OnOk};
 ghost use Rattle.wit_graph_data.specs.Named.{world_named};
-ghost use Rattle.wit_script_places.specs.Desk.{working};
+ghost use Rattle.wit_script_explain.specs.Desk.{working};
 ghost use Rattle.witgraph_dot.specs.Effects.{change_effect, exportized_imports, exports_of, importize_effect, importized_imports, request_effect, semver_merged_imports, with_effect, with_versions};
 
 use crate::entries::{own_exports, own_imports};
@@ -15,7 +15,7 @@ use wit_resolve_graph::{
     WorldId,
 };
 use wit_script::Request;
-use wit_script_places::Desk;
+use wit_script_explain::Desk;
 
 /// What a command lists for worlds if it comes to something.
 #[derive(Drop)]

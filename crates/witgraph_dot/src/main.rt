@@ -40,8 +40,8 @@ use std::io;
 use std::process::ExitCode;
 use wit_resolve_graph::{ResolveError, ResolveResult};
 use wit_script::{ReadFault, read_script};
-use wit_script_faults::misread;
-use wit_script_places::script_lines;
+use wit_script_explain::misread;
+use wit_script_explain::script_lines;
 use wit_streams::{StreamFault, Watched, exit_status, read_all, write_all};
 
 /// Whether a script is understood, and its picture, or why it isn't. The only refusal is want of memory, in a command or

@@ -1,6 +1,6 @@
 use Rattle.std.proofs.Common.{◌≡◌, ◌++◌, ◌∙◌, ◌∷◌, [], ap, sym, subst, string_bytes, ℕ, List}
-use Rattle.wit_script_faults.specs.Explained.{place_of, rest_of}
-use Rattle.wit_script_places.specs.declared.lines.CommandPlace.{CommandPlace}
+use Rattle.wit_script_explain.specs.Explained.{place_of, rest_of}
+use Rattle.wit_script_explain.specs.declared.lines.CommandPlace.{CommandPlace}
 use Rattle.witgraph_dot.proofs.Staged.{AllMake-more, rest_after-more}
 use Rattle.witgraph_dot.proofs.stage.Stage.after.Goals as goal
 use Rattle.witgraph_dot.specs.Made.{AllMake, CommandMakes, new_stage}

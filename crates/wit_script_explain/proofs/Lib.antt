@@ -1,0 +1,5 @@
+pub mod CommandLines
+pub mod Explained
+pub mod Placed
+pub mod Reasons
+pub mod Staged

@@ -1,0 +1,22 @@
+-- What is told of a script that isn't understood: the line at which it isn't, and why. Of the reason nothing is said here.
+use Rattle.std.specs.Prelude.{◌≡◌, ℕ, ◌+◌, List, [], ◌++◌, codes, decimal, slice_get}
+use Rattle.std.specs.Option.{option_map_or}
+use Rattle.wit_script_explain.specs.Culprit.{fault_index}
+use Rattle.wit_script_explain.specs.Shown.{snippet_text}
+use Rattle.wit_script_explain.specs.declared.lines.ScriptLines.{ScriptLines}
+
+-- `line N: REASON`, and the line with a mark
+abbrev pub misread_text_of : ℕ → List ℕ → List ℕ → List ℕ
+misread_text_of index reason line =
+    codes "line "
+    ++ (decimal (index + 1)
+    ++ (codes ": " ++ (reason ++ (codes "\n" ++ snippet_text (index + 1) line))))
+
+abbrev pub misread_text : ScriptLines → ℕ → List ℕ → List ℕ
+misread_text script index reason =
+    option_map_or (misread_text_of index reason) (slice_get script.lines index) []
+
+-- what is told where the line of this number isn't understood
+abbrev pub IsMisreadText : ScriptLines → ℕ → List ℕ → Type 0
+IsMisreadText script number text =
+    (reason : List ℕ) × (text ≡ misread_text script (fault_index script number) reason)

@@ -1,6 +1,0 @@
-use native.Mathlib.Omega.{arith}
-use Rattle.std.proofs.lemmas.Grind.{common_steps}
-use Rattle.wit_script_faults.proofs.culprit.culprit.Goals as goal
-
-pub loop-index-preserved : goal.loop-index-preserved
-loop-index-preserved c = grind (arith, common_steps)

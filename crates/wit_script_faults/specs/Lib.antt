@@ -1,4 +1,0 @@
-pub mod Culprit
-pub mod Explained
-pub mod Misread
-pub mod Refusals
