@@ -71,7 +71,7 @@ AFTER = {
     "plain-rust": "python3 check/plain.py {witgraph} {witgraph_json} {witgraph_dot} --seed {seed}",
     "changed-documents": "python3 check/mutated_documents.py {library}/libwitgraph.so --first {seed} --many 20000",
     "growth": "python3 bench/growth.py --rows {witgraph} {witgraph_json} {witgraph_dot}",
-    "sweep": "python3 check/sweep.py --calls {test_sweep} --scripts {witgraph} --documents {witgraph_json}",
+    "sweep": "python3 check/sweep.py --calls {test_sweep} --scripts {witgraph} --documents {witgraph_json} --pictures {witgraph_dot}",
 }
 STEPS = BEFORE | AFTER
 

@@ -2,11 +2,11 @@
 """Refuses each request for memory in turn, and tells where want of memory isn't what is answered. A request for less than
 what a block has, which gives memory back, is none of these.
 
-    python3 check/sweep.py [--calls PROGRAM] [--scripts PROGRAM] [--documents PROGRAM] [--jobs N]
+    python3 check/sweep.py [--calls PROGRAM] [--scripts PROGRAM] [--documents PROGRAM] [--pictures PROGRAM] [--jobs N]
     python3 check/sweep.py --planted BUILD
 
 The programs are those that `rt ci` leaves in the folders `out`: `test_sweep`, which makes each call on the graphs of
-worked scripts, `witgraph`, which runs the scripts of `test_cases`, and `witgraph_json`. `check/refuse.c` is compiled and laid over
+worked scripts, `witgraph`, which runs the scripts of `test_cases`, `witgraph_json` and `witgraph_dot`. `check/refuse.c` is compiled and laid over
 their allocator. Each round is a process of its own. The script ends with status 1 where a round isn't answered so:
 
 Calls. In the round of number N the Nth request for memory within one call is refused, for N from 1 until none is; then
@@ -23,7 +23,10 @@ status 1.
 Documents. Every eighth script that has a document (`check/script_documents.py`) is given to `witgraph_json` as that; of every
 sixteenth the second half, too, in a document that begins with the graph of the first. In the round of number N the Nth
 request of the whole run is refused. One command is answered by 28, and the others and the graph are as where that command
-isn't there; or nothing is written, with status 1, and standard error says why. Else no program writes anything there.
+isn't there; or nothing is written, with status 1, and standard error says why.
+
+Pictures. `witgraph_dot` draws the scripts of PICTURES. Whichever request is refused, nothing is drawn, with status 1, and
+standard error says why. Else no program writes anything there.
 
 `--planted` plants the wrong bodies of `check/planted` in a copy of the repository and ends with status 1 where the
 sweep of the calls doesn't tell one of them. No proof lets them pass, so `BUILD FOLDER OUT` is a command that builds the
@@ -378,6 +381,33 @@ class Document:
         return is_refused, [f"request {at}: {it}" for it in faults]
 
 
+# ---- pictures
+
+PICTURES = "chain", "conflict", "merge"
+
+
+class Picture:
+    """The rounds of the picture of one script."""
+
+    def __init__(self, program, script):
+        self.program, self.script = program, script
+        self.plain = program.run(script)
+        self.faults = list(self.plain.faults())
+        if self.plain.status or not self.plain.out.startswith("digraph"):
+            self.faults.append(f"without refusals: status {self.plain.status}, prints\n{self.plain.out}")
+
+    def rounds(self):
+        return ((at,) for at in range(1, self.plain.whole[0] + 2))
+
+    def judge(self, at):
+        """Whether anything is refused in a round, and what is wrong."""
+        ran = self.program.run(self.script, at=at)
+        faults, is_refused = list(ran.faults()), ran.whole[1] > 0
+        if (ran.status, ran.out) != ((1, "") if is_refused else (0, self.plain.out)):
+            faults.append(f"status {ran.status}, prints\n{ran.out[:2000]}")
+        return is_refused, [f"request {at}: {it}" for it in faults]
+
+
 # ---- all of them
 
 
@@ -439,6 +469,12 @@ class Sweep:
             self.add(f"second half of {name}", Document(program, commands[middle:], resolve))
         self.tell(f"{len(chosen)} documents and {len(halved)} second halves more")
 
+    def pictures(self, path):
+        program = self.program(path, "witgraph_dot: out of memory: nothing is drawn\n")
+        for name in PICTURES:
+            self.add(f"picture {name}", Picture(program, read(f"{TOP}/docs/pictures/{name}.script")))
+        self.tell(f"{len(PICTURES)} pictures more")
+
     def tell(self, what):
         print(f"sweep: {what}: {self.rounds} rounds with a refusal, {len(self.faults)} wrong, {time.time() - self.begun:.0f} s", flush=True)
 
@@ -470,6 +506,7 @@ def main():
     parser.add_argument("--calls", default=f"{TOP}/crates/test_sweep/out/test_sweep")
     parser.add_argument("--scripts", default=f"{TOP}/crates/witgraph/out/witgraph")
     parser.add_argument("--documents", default=f"{TOP}/crates/witgraph_json/out/witgraph_json")
+    parser.add_argument("--pictures", default=f"{TOP}/crates/witgraph_dot/out/witgraph_dot")
     parser.add_argument("--jobs", type=int, default=os.cpu_count())
     parser.add_argument("--planted", metavar="BUILD")
     asked = parser.parse_args()
@@ -480,6 +517,7 @@ def main():
         sweep.calls(asked.calls, cases_of(f"{TOP}/crates/test_sweep/stdout"))
         sweep.scripts(asked.scripts)
         sweep.documents(asked.documents)
+        sweep.pictures(asked.pictures)
     for it in sweep.faults[:40]:
         print("WRONG", it)
     return 1 if sweep.faults else 0
