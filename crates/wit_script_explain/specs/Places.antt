@@ -1,5 +1,6 @@
 -- Where in a script a span of the sources of its packages stands.
 use Rattle.std.specs.Prelude.{ℕ, ◌+◌, ◌-◌, nat_le, Bool, false, List, [], ◌∷◌, length, take, drop, count_by, slice_get, Option, Some, None, option_and_then, option_map, if◌then◌else◌}
+use Rattle.std.specs.Option.{option_or}
 use Rattle.wit_names.specs.PackageName.{same_package}
 use Rattle.wit_names.specs.declared.package_name.PackageName.{PackageName}
 use Rattle.wit_script_lines.specs.Statement.{statement_of}
@@ -49,13 +50,8 @@ begins_in script name index =
 abbrev pub begins_at : ScriptLines → PackageName → ℕ → Option ℕ
 begins_at script name place = option_and_then (begins_in script name) (slice_get script.filed place)
 
--- this, where there is one, or else another
-abbrev pub or_else : Option ℕ → Option ℕ → Option ℕ
-or_else (Some index) other = Some index
-or_else None other = other
-
 -- the line that begins the package of a name, among those that begin packages at these places
 abbrev pub defined_line : ScriptLines → PackageName → List ℕ → Option ℕ
 defined_line script name [] = None
 defined_line script name (place ∷ places) =
-    or_else (begins_at script name place) (defined_line script name places)
+    option_or (begins_at script name place) (defined_line script name places)
