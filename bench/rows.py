@@ -200,7 +200,7 @@ ROWS = (
     Row(refusals_in_many_files, (1000, 2000), 1.45, JSON),
     Row(importize_by_world, (1000, 2000), 1.55),
     Row(exportize_by_world, (1000, 2000), 1.55),
-    Row(drawn_include_chain, (15, 30), 3.6, DOT),
-    Row(drawn_includes, (100, 200), 2.2, DOT),
-    Row(drawn_choice, (200, 400), 1.35, DOT),
+    Row(drawn_include_chain, (15, 30), 1.8, DOT),
+    Row(drawn_includes, (100, 200), GOOD, DOT),
+    Row(drawn_choice, (200, 400), 1.3, DOT),
 )

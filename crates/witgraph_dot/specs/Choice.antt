@@ -32,7 +32,7 @@ picks_name pick name = option_map_or (λ picked. bytes_eq picked name) pick.name
 
 -- the pick is of what has this name in this package
 abbrev pub picks : Pick → PackageName → List ℕ → Bool
-picks pick owner name = picks_package pick owner && picks_name pick name
+picks pick owner name = picks_name pick name && picks_package pick owner
 
 -- one of some picks is of it
 abbrev pub is_picked : List Pick → PackageName → List ℕ → Bool

@@ -60,7 +60,7 @@ impl Pick {
     fn picks(&self, owner: &PackageName, name: &Text) -> bool
         ensures { result ≡ picks self.now owner.now name.now }
     {
-        self.picks_package(owner) && self.picks_name(name)
+        self.picks_name(name) && self.picks_package(owner)
     }
 }
 
