@@ -21,7 +21,7 @@ OUT = (b'{"replies":[{"packages":[]}],"resolve":{"graph":{"worlds":[],"interface
        b'"details":{"worlds":[],"interfaces":[],"types":[]},"features":{"all":false,"names":[]},"track-rule":"published","sources":[]}}')
 REASON = b"line 2: i_i is no kebab name\n      |\n    2 | interface i_i\n      | ^------------\n"
 VERSION, ANY = open(f"{TOP}/VERSION", "rb").read().strip(), b"\xff.."
-USAGE = b"usage: witgraph_json < DOCUMENT\n"
+USAGE, USAGE_DOT = b"usage: witgraph_json < DOCUMENT\n", b"usage: witgraph_dot < SCRIPT\n"
 # Of each program: arguments, input (None: one that can't be read), whether it can be written; the status, what is written,
 # and what standard error has, where that isn't nothing. ANY is whatever comes there.
 RUNS = {
@@ -51,6 +51,11 @@ RUNS = {
         ([], NO_UTF8, True, 1, b"", b"witgraph_dot: the script isn't UTF-8\n"),
         ([], None, True, 1, b"", b"witgraph_dot: the script can't be read\n"),
         ([], SCRIPT, False, 1, b"", b"witgraph_dot: the picture can't be written\n"),
+        (["--help"], SCRIPT, True, 0, USAGE_DOT + ANY),
+        (["--help"], SCRIPT, False, 1, b""),
+        (["--version"], SCRIPT, True, 0, b"witgraph_dot " + VERSION + b"\n"),
+        (["--version", "more"], SCRIPT, True, 2, b"", USAGE_DOT + ANY),
+        (["chain.script"], SCRIPT, True, 2, b"", USAGE_DOT + ANY),
     ],
 }
 

@@ -38,11 +38,23 @@ use crate::stage::Stage;
 use std::alloc::{AllocError, Global};
 use std::io;
 use std::process::ExitCode;
+use wit_arguments::Asked;
 use wit_resolve_graph::{ResolveError, ResolveResult};
 use wit_script::{ReadFault, read_script};
-use wit_script_explain::misread;
-use wit_script_explain::script_lines;
+use wit_script_explain::{misread, script_lines};
 use wit_streams::{StreamFault, Watched, exit_status, read_all, write_all};
+
+/// How the program is called.
+const USAGE: &str = "usage: witgraph_dot < SCRIPT
+
+Carries out the commands of a script, and draws its last graph for Graphviz.
+docs/SCRIPT.md has the commands; docs/PICTURES.md has what comments choose.
+
+  --help      prints this
+  --version   prints the version";
+
+/// The version of this program.
+const VERSION: &str = "0.1.0";
 
 /// Whether a script is understood, and its picture, or why it isn't. The only refusal is want of memory, in a command or
 /// outside.
@@ -87,11 +99,32 @@ fn reason(fault: StreamFault) -> &'static str {
     }
 }
 
-/// Status 0 where the script was understood and drawn, else 1. Standard error says why nothing, or not all, is written.
-fn main(rt: HostRuntime) -> ExitCode {
-    let drawn = draw_input(&rt);
+/// Draws the script of standard input. The status is 0 if it was understood and the picture is written, else 1. Standard
+/// error says why nothing, or not all, is written.
+fn carry_out(rt: &HostRuntime) -> ExitCode {
+    let drawn = draw_input(rt);
     if let Err(fault) = drawn {
         let _is_told = eprintln!(rt; "witgraph_dot: {}", reason(fault));
     }
     ExitCode::from(exit_status(drawn))
+}
+
+/// The status of what was printed.
+fn printed_status(printed: io::Result<()>) -> ExitCode {
+    match printed {
+        Ok(()) => ExitCode::SUCCESS,
+        Err(_) => ExitCode::FAILURE,
+    }
+}
+
+fn main(rt: HostRuntime) -> ExitCode {
+    match Asked::by(&rt) {
+        Asked::Work => carry_out(&rt),
+        Asked::Help => printed_status(println!(rt; "{USAGE}")),
+        Asked::Version => printed_status(println!(rt; "witgraph_dot {VERSION}")),
+        Asked::Unknown => {
+            let _is_told = eprintln!(rt; "{USAGE}");
+            ExitCode::from(2)
+        }
+    }
 }

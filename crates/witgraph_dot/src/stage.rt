@@ -10,8 +10,7 @@ use std::alloc::{AllocError, Global};
 use std::mem;
 use wit_resolve_graph::{Items, Reply, ResolveError, ResolveErrorKind, ResolveResult};
 use wit_script::ReadyCommand;
-use wit_script_explain::{Outcome, explain_command, next_place};
-use wit_script_explain::{CommandPlace, Desk, ScriptLines};
+use wit_script_explain::{CommandPlace, Desk, Outcome, ScriptLines, explain_command, next_place};
 
 /// The graphs of a script, and what lines list for the worlds of each.
 #[derive(Drop)]

@@ -1,11 +1,9 @@
 //! Carries out a JSON document of commands from standard input, and writes the document that comes out to standard output.
 #![tactic(auto)]
 
-mod asked;
-
-use crate::asked::Asked;
 use std::io;
 use std::process::ExitCode;
+use wit_arguments::Asked;
 use wit_json_commands::execute;
 use wit_streams::{StreamFault, Watched, exit_status};
 
@@ -53,7 +51,7 @@ fn status(printed: io::Result<()>) -> ExitCode {
 
 fn main(rt: HostRuntime) -> ExitCode {
     match Asked::by(&rt) {
-        Asked::Document => carry_out(&rt),
+        Asked::Work => carry_out(&rt),
         Asked::Help => status(println!(rt; "{USAGE}")),
         Asked::Version => status(println!(rt; "witgraph_json {VERSION}")),
         Asked::Unknown => {

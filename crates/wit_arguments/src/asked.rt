@@ -1,26 +1,30 @@
-//! What the arguments of the program ask for.
+//! What the arguments of a program ask for.
+ghost use Rattle.std.specs.Prelude.{◌≡◌};
+ghost use Rattle.wit_arguments.specs.Asked.{asked_by};
 
 use std::env::{Env, FillError};
 
-/// What a call of the program asks for.
+/// What a call of a program asks for.
 #[derive(Clone, Copy, Debug, PartialEq, Eq)]
-pub(crate) enum Asked {
-    /// There are no arguments: a document is to be carried out.
-    Document,
+pub enum Asked {
+    /// There are no arguments: the program does its work.
+    Work,
+    /// `--help`
     Help,
+    /// `--version`
     Version,
     /// Other arguments, or more than one.
     Unknown,
 }
 
 impl Asked {
-    /// What the arguments behind the program's name ask for.
-    pub(crate) fn by(rt: &impl Env) -> Asked {
+    /// What the arguments behind the program's name ask for. Contracts don't see the arguments of a program.
+    pub fn by(rt: &impl Env) -> Asked {
         let mut word = [0u8; 16];
         let asked = match rt.arg(1, &mut word) {
-            Err(FillError::NotPresent) => return Asked::Document,
+            Err(FillError::NotPresent) => return Asked::Work,
             Err(FillError::TooLong) => return Asked::Unknown,
-            Ok(length) => Asked::named(&word[..length]),
+            Ok(length) => Asked::by_word(&word[..length]),
         };
         match rt.arg(2, &mut []) {
             Err(FillError::NotPresent) => asked,
@@ -29,7 +33,9 @@ impl Asked {
     }
 
     /// What one argument asks for.
-    fn named(word: &[u8]) -> Asked {
+    pub fn by_word(word: &[u8]) -> Asked
+        ensures { result ≡ asked_by word.now }
+    {
         if word == "--help".as_bytes() {
             Asked::Help
         } else if word == "--version".as_bytes() {
