@@ -79,7 +79,7 @@ PLANTED = {
     "a case that shows a refusal": ("docs/REFUSALS.md", "`a_place_that_passes_the_end_is_told`", "`a_place_past_the_end_is_told`"),
     "a call in plain Rust": ("docs/FROM_WIT_PARSER.md", "`version_compat_track(&Version) -> Version`", "`version_compat_track(&Version) -> String`"),
     "a form in plain Rust": ("docs/FROM_WIT_PARSER.md", "`external_id_value(&WorldItem)` | ✓", "`external_id_value(&WorldItem)` | ←"),
-    "a name in plain Rust": ("docs/FROM_WIT_PARSER.md", "`from_parser::group`", "`from_parser::all_groups`"),
+    "a name in plain Rust": ("docs/FROM_WIT_PARSER.md", "`from_parser::resolve`", "`from_parser::all_groups`"),
     "a call that plain Rust has, too": ("docs/FROM_WIT_PARSER.md", "New in Rattle alone: `is_shaped", "New in both: `is_shaped"),
     "a field of a type": ("docs/FROM_WIT_PARSER.md", "`Param { name, ty, span }`", "`Param { name, kind, span }`"),
     "a lemma at another file": ("docs/PROOFS.md", "`IsFine` of `wit_merge/Behind`", "`IsFine` of `wit_merge/MergeSteps`"),
