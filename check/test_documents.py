@@ -17,7 +17,7 @@ PATH = os.path.join(os.path.dirname(os.path.abspath(__file__)), "documents")
 LOADER = importlib.machinery.SourceFileLoader("documents", PATH)
 documents = importlib.util.module_from_spec(importlib.util.spec_from_loader("documents", LOADER))
 LOADER.exec_module(documents)
-from claims import commands, comments, contracts, layouts, names, numbers, reading, refusals, scripts
+from claims import commands, comments, contracts, layouts, names, numbers, plain, reading, refusals, scripts
 from claims.repository import crates, read
 
 # Names that are nowhere: put together here, since a word of this file is there.
@@ -77,6 +77,10 @@ PLANTED = {
     "a mean of PERFORMANCE": ("docs/PERFORMANCE.md", "| 0.75 | 0.73 | 0.85 |", "| 0.65 | 0.73 | 1.01 |"),
     "whether a call takes memory": ("docs/FROM_WIT_PARSER.md", "`all_bits_valid(Type_)`, no memory", "`all_bits_valid(Type_)`"),
     "a case that shows a refusal": ("docs/REFUSALS.md", "`a_place_that_passes_the_end_is_told`", "`a_place_past_the_end_is_told`"),
+    "a call in plain Rust": ("docs/FROM_WIT_PARSER.md", "`version_compat_track(&Version) -> Version`", "`version_compat_track(&Version) -> String`"),
+    "a form in plain Rust": ("docs/FROM_WIT_PARSER.md", "`external_id_value(&WorldItem)` | ✓", "`external_id_value(&WorldItem)` | ←"),
+    "a name in plain Rust": ("docs/FROM_WIT_PARSER.md", "`from_parser::resolve`", "`from_parser::all_groups`"),
+    "a call that plain Rust has, too": ("docs/FROM_WIT_PARSER.md", "New in Rattle alone: `is_shaped", "New in both: `is_shaped"),
     "a field of a type": ("docs/FROM_WIT_PARSER.md", "`Param { name, ty, span }`", "`Param { name, kind, span }`"),
     "a lemma at another file": ("docs/PROOFS.md", "`IsFine` of `wit_merge/Behind`", "`IsFine` of `wit_merge/MergeSteps`"),
     "a version of the toolchain": ("README.md", "logic dac8208d650f15bf", "logic dac8208d650f15be"),
@@ -154,6 +158,12 @@ class Stale(unittest.TestCase):
             self.assertEqual(0, self.told(numbers.stale_rows, read(path), path))
         text = read(numbers.DIFFERENCES).replace("| a labelled export |", "| another |")
         self.assertEqual(1, self.told(numbers.stale_rows, text, numbers.DIFFERENCES))
+
+    def test_plain(self):
+        table = "| wit-parser | Rattle | Plain Rust |\n|---|---|---|\n| `Docs::default()` | `Docs::none()` | {} |"
+        for cell, count in ("✓", 0), ("←", 0), ("–", 1), ("`Docs::none() -> Docs`", 0), ("`Docs::none(u32)`", 1), (f"`{NAME}`", 1):
+            self.assertEqual(count, self.told(plain.stale_plain, table.format(cell), contracts.ORIGINAL_NAMES), cell)
+        self.assertEqual(1, self.told(plain.stale_plain, f"Only plain Rust has `{TYPE}`.", contracts.ORIGINAL_NAMES))
 
     def test_clauses_and_laws(self):
         heading, path = "### Adding: wit_link\n", contracts.GUARANTEES

@@ -35,15 +35,20 @@ def is_original(cell):
     return re.fullmatch(r"\s*(?:with )?wit-parser(?: [\d.]+)?\s*", cell, re.I)
 
 
+def is_plain(cell):
+    """Whether a column of this heading has names of the crate in plain Rust."""
+    return cell.strip() == "Plain Rust"
+
+
 def without_original(text):
-    """A text in which the columns headed by wit-parser are empty."""
+    """A text in which the columns headed by wit-parser, and those of the crate in plain Rust, are empty."""
     lines, columns = [], []
     for line in text.split("\n"):
         cells = cells_of(line)
         if not line.startswith("|"):
             columns = []
         elif not columns and any(is_original(cell) for cell in cells):
-            columns = [at for at, cell in enumerate(cells) if is_original(cell)]
+            columns = [at for at, cell in enumerate(cells) if is_original(cell) or is_plain(cell)]
         lines.append("|".join("" if at in columns else cell for at, cell in enumerate(cells)))
     return "\n".join(lines)
 
