@@ -23,4 +23,4 @@ mod word_reason;
 pub use crate::desk::{Desk, TrackedGraph};
 pub use crate::lines::{CommandPlace, LineSort, ScriptLines, script_lines, sort_of};
 pub use crate::outcome::Outcome;
-pub use crate::refusals::{explain_command, explain_text, misread, next_place};
+pub use crate::refusals::{explain_command, explain_misread, explain_text, next_place};

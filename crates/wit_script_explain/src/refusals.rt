@@ -36,14 +36,21 @@ pub fn explain_text(alloc: Global, script: &str) -> Result<(bool, String), Alloc
             Ok(text) => Ok((true, text)),
             Err(_) => Err(AllocError),
         },
-        Err(ReadFault::NotUnderstood { line }) => Ok((false, misread(alloc, &lines, line)?)),
+        Err(ReadFault::NotUnderstood { line }) => Ok((
+            false,
+            explain_misread(alloc, &lines, line)?,
+        )),
         Err(ReadFault::OutOfMemory) => Err(AllocError),
     }
 }
 
 /// What there is to say of a script that isn't understood, where the line of this number isn't. The only error is want of
 /// memory.
-pub fn misread(alloc: Global, script: &ScriptLines, number: usize) -> Result<String, AllocError>
+pub fn explain_misread(
+    alloc: Global,
+    script: &ScriptLines,
+    number: usize,
+) -> Result<String, AllocError>
     ensures { IfOk result (λ text. IsMisreadText script.now number (string_bytes text)) }
 {
     let index = fault_index(alloc, script, number)?;

@@ -41,7 +41,7 @@ use std::process::ExitCode;
 use wit_arguments::Asked;
 use wit_resolve_graph::{ResolveError, ResolveResult};
 use wit_script::{ReadFault, read_script};
-use wit_script_explain::{misread, script_lines};
+use wit_script_explain::{explain_misread, script_lines};
 use wit_streams::{StreamFault, Watched, exit_status, read_all, write_all};
 
 /// How the program is called.
@@ -69,7 +69,10 @@ fn answer(alloc: Global, script: &str) -> ResolveResult<(bool, String)>
             let graph = &stage.desk.first.resolve;
             Ok((true, draw(alloc, graph, &stage.first, &note, &choice)?))
         }
-        Err(ReadFault::NotUnderstood { line }) => Ok((false, misread(alloc, &lines, line)?)),
+        Err(ReadFault::NotUnderstood { line }) => Ok((
+            false,
+            explain_misread(alloc, &lines, line)?,
+        )),
         Err(ReadFault::OutOfMemory) => Err(ResolveError::from(AllocError)),
     }
 }
