@@ -77,7 +77,7 @@ PLANTED = {
     "a mean of PERFORMANCE": ("docs/PERFORMANCE.md", "| 0.75 | 0.73 | 0.85 |", "| 0.65 | 0.73 | 1.01 |"),
     "whether a call takes memory": ("docs/FROM_WIT_PARSER.md", "`all_bits_valid(Type_)`, no memory", "`all_bits_valid(Type_)`"),
     "a case that shows a refusal": ("docs/REFUSALS.md", "`a_place_that_passes_the_end_is_told`", "`a_place_past_the_end_is_told`"),
-    "a call in plain Rust": ("docs/FROM_WIT_PARSER.md", "`version_compat_track(&Version) -> Version`", "`version_compat_track(&Version) -> String`"),
+    "a call in plain Rust": ("docs/FROM_WIT_PARSER.md", "`push_str(&str, impl Into<String>) -> Result<(), MapFault>`", "`push_str(&str, impl Into<String>) -> u32`"),
     "a form in plain Rust": ("docs/FROM_WIT_PARSER.md", "`external_id_value(&WorldItem)` | ✓", "`external_id_value(&WorldItem)` | ←"),
     "a name in plain Rust": ("docs/FROM_WIT_PARSER.md", "`from_parser::resolve`", "`from_parser::all_groups`"),
     "a call that plain Rust has, too": ("docs/FROM_WIT_PARSER.md", "New in Rattle alone: `is_shaped", "New in both: `is_shaped"),

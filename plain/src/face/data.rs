@@ -37,9 +37,10 @@ impl Docs {
 
 impl PackageName {
     /// The track of a version, as a version: of 1.2.3 it is 1.0.0, of 0.2.3 0.2.0, of 0.0.3 0.0.3; of a pre-release it is
-    /// itself, without its build metadata.
-    pub fn version_compat_track(version: &Version) -> Version {
-        PackageName::track_by(version, TrackRule::Published)
+    /// itself, without its build metadata. And what it leaves out of the version's text.
+    pub fn version_compat_track(version: &Version) -> (Version, Option<String>) {
+        let (track, rest) = answered(PackageName::try_version_compat_track(version));
+        (track, rest.map(|it| it.into_std()))
     }
 
     /// The text of a version's track, and what it leaves out of the version's text.
