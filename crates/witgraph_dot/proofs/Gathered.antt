@@ -52,7 +52,7 @@ rounds-left brings includes n k before after total below made next =
 -- ---- a round that adds nothing
 
 -- a list with more behind it
-Grows : {A : Type 0} → List A → List A → Type 0
+abbrev Grows : {A : Type 0} → List A → List A → Type 0
 Grows {A} before after = (more : List A) × (after ≡ before ++ more)
 
 grows-not : {A : Type 0} (xs : List A) → Grows xs xs
@@ -83,7 +83,7 @@ fold-grows step grows l (x ∷ xs) = grows-on l (step l x) (fold step l (x ∷ x
 
 -- what has grown and is as long is the same
 grown-same : {A : Type 0} (before after : List A) → Grows before after → length after ≡ length before → after ≡ before
-grown-same before after grown same = of grown.0 grown.1 where
+grown-same {A} before after grown same = of grown.0 grown.1 where
   of : (more : List A) → after ≡ before ++ more → after ≡ before
   of [] is = is ∙ append-nil before
   of (x ∷ more) is =

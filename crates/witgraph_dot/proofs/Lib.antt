@@ -1,5 +1,6 @@
 mod Appended
 mod Gathered
+mod Imported
 mod Staged
 mod Viewed
 mod Written
