@@ -2,8 +2,7 @@
 # check/c_example.sh: builds what is written in C on the static library, with gcc or another C compiler and nothing else:
 # the example prints what each worked script is to print and ends with the status of `witgraph`, tells a script that isn't
 # UTF-8, a document is carried out, and its graph read again, and an allocation that is refused is told. Then come the tests
-# of Python's module, whose readme shows what is told. `.ci/run` runs it after `rt ci`, over whose libraries it builds the
-# static one.
+# of Python's module, whose readme shows what is told, and a graph that stays in C and in Python. `.ci/run` runs it after `rt ci`, over whose libraries it builds the static one.
 #
 # WITGRAPH_LIBRARY, the folder of a libwitgraph_c.a that is there, spares the build of the library. WITGRAPH_SHARED is where
 # the shared library is left that the tests of Python's module load.
@@ -55,13 +54,20 @@ echo "c_example: the document of witgraph_json comes out as stored, and its grap
 
 # Each allocation is refused in turn.
 "$compiler" $flags -Wl,--wrap=malloc,--wrap=realloc,--wrap=free bindings/c/no_memory.c $libraries -o "$work/no_memory"
-"$work/no_memory" < crates/witgraph/stdin
+"$work/no_memory" crates/witgraph_json/stdin < crates/witgraph/stdin
 
 WITGRAPH_SHARED=${WITGRAPH_SHARED:-$work/libwitgraph.so}
 export WITGRAPH_SHARED
 "$compiler" -shared -Wl,--whole-archive "$WITGRAPH_LIBRARY/libwitgraph_c.a" -Wl,--no-whole-archive "$kit/c/liblibc_c.a" \
     -o "$WITGRAPH_SHARED"
 python3 bindings/python/test_witgraph.py
+
+# The C program that links 200 packages one by one makes the graph that Python's makes.
+"$compiler" $flags bindings/c/two_hundred.c $libraries -o "$work/two_hundred"
+"$work/two_hundred" > "$work/linked"
+PYTHONDONTWRITEBYTECODE=1 PYTHONPATH=bindings/python python3 -c \
+    'import sys, two_hundred; sys.stdout.buffer.write(two_hundred.linked().text)' | cmp - "$work/linked"
+echo "c_example: C and Python link 200 packages one by one, and make the same graph"
 
 # What isn't UTF-8 is told of each call alike.
 python3 - << 'P'

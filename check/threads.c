@@ -4,7 +4,7 @@
  *     ./threads SCRIPT DOCUMENT often CALLS
  *
  * Each of eight has inputs of its own: the script with a package behind it that comes twice, so that there is a refusal to be
- * explained, and the document. What each call of each
+ * explained, and the document, which also makes a graph that stays for one call. What each call of each
  * function writes is compared with what a first call wrote, before there were threads, and a call has to free all that it
  * allocates. `often` makes so many calls in one thread, and looks that the program takes no more of the system.
  *
@@ -17,7 +17,7 @@
 
 #include "witgraph.h"
 
-enum { THREADS = 8, ROOM = 1 << 20, KILOBYTES_OF_NOISE = 256 };
+enum { THREADS = 8, CALLS = 4, ROOM = 1 << 20, KILOBYTES_OF_NOISE = 256 };
 
 typedef uint32_t function(const uint8_t *, size_t, uint8_t *, size_t, size_t *);
 
@@ -34,7 +34,7 @@ typedef struct {
 /* What a thread does: its calls, and memory for what they write. */
 typedef struct {
   pthread_t thread;
-  call calls[3];
+  call calls[CALLS];
   uint8_t *script, *document, *output;
   long rounds;
   int differs;
@@ -86,6 +86,16 @@ static call made(function *run, const uint8_t *input, size_t length) {
   return it;
 }
 
+/* The graph that a document makes of an empty one that stays, by a graph of this call's own. */
+static uint32_t on_a_graph(const uint8_t *document, size_t length, uint8_t *text, size_t capacity, size_t *needed) {
+  witgraph_graph graph = {0};
+  uint32_t status = witgraph_open(&graph);
+  if (!status) status = witgraph_apply(&graph, document, length, needed);
+  if (!status) status = witgraph_write(&graph, needed);
+  if (!status) status = witgraph_reply(&graph, text, capacity, needed);
+  return witgraph_close(&graph) ? WITGRAPH_NO_GRAPH : status;
+}
+
 static void prepare(work *it, int number, long rounds, char **files) {
   it->script = room(ROOM);
   it->document = room(ROOM);
@@ -96,12 +106,13 @@ static void prepare(work *it, int number, long rounds, char **files) {
   it->calls[0] = made(witgraph_execute, it->script, script);
   it->calls[1] = made(witgraph_explain, it->script, script);
   it->calls[2] = made(witgraph_json, it->document, document);
+  it->calls[3] = made(on_a_graph, it->document, document);
   it->rounds = rounds;
   it->differs = 0;
 }
 
 static void release(work *it) {
-  for (int i = 0; i < 3; i++) free(it->calls[i].expected);
+  for (int i = 0; i < CALLS; i++) free(it->calls[i].expected);
   free(it->script);
   free(it->document);
   free(it->output);
@@ -119,14 +130,14 @@ static int is_right(const call *it, uint8_t *output) {
 static void *all_rounds(void *given) {
   work *it = given;
   for (long round = 0; round < it->rounds; round++)
-    for (int i = 0; i < 3; i++) it->differs |= !is_right(&it->calls[i], it->output);
+    for (int i = 0; i < CALLS; i++) it->differs |= !is_right(&it->calls[i], it->output);
   return NULL;
 }
 
 static int at_once(long calls, char **files) {
   static work all[THREADS];
   int differs = 0;
-  for (int i = 0; i < THREADS; i++) prepare(&all[i], i, calls / 3 / THREADS + 1, files);
+  for (int i = 0; i < THREADS; i++) prepare(&all[i], i, calls / CALLS / THREADS + 1, files);
   for (int i = 0; i < THREADS; i++)
     if (pthread_create(&all[i].thread, NULL, all_rounds, &all[i])) return fputs("threads: none can be started\n", stderr), 2;
   for (int i = 0; i < THREADS; i++) {
@@ -148,7 +159,7 @@ static int often(long calls, char **files) {
   static work it;
   long first = 0;
   prepare(&it, 0, 1, files);
-  for (long round = 0; 3 * round < calls; round++) {
+  for (long round = 0; CALLS * round < calls; round++) {
     all_rounds(&it);
     if (it.differs) return fprintf(stderr, "threads: round %ld wrote something else, or holds memory\n", round), 1;
     if (round == 100) first = kilobytes();

@@ -1,13 +1,14 @@
-/* witgraph runs scripts or JSON documents that add WIT packages to a graph, change it and ask about it.
+/* witgraph runs scripts or JSON documents that add WIT packages to a graph, change it and ask about it. The graph is the
+ * call's own, or one that stays between calls.
  *
  * SCRIPT.md describes scripts and their answers, JSON.md the documents. They stand in docs, in a release in
  * share/doc/witgraph. With a release, compile your program with the flags that `pkg-config --cflags --libs witgraph` prints.
  * From the repository, link libwitgraph_c.a, which `rt lib` builds in crates/witgraph_c, and after it the toolchain's
  * liblibc_c.a: bindings/README.md has the commands. The library calls the malloc, realloc and free of your program.
  *
- * No function keeps anything between calls: it takes no handle, gives none, and calls in different threads don't
- * disturb each other. What it allocates it frees before it returns. It opens no file, and neither reads nor writes
- * anything but its arguments.
+ * Only an open witgraph_graph stays between calls. All else that a call allocates it frees before it returns. Calls in
+ * different threads don't disturb each other; of one witgraph_graph only one call may run at a time. No call opens a file,
+ * and none reads or writes anything but its arguments and the graph that is open in them.
  */
 #ifndef WITGRAPH_H
 #define WITGRAPH_H
@@ -27,19 +28,25 @@ extern "C" {
 
 /* The status of a call. No other number is returned. */
 enum {
-  /* The script was understood and run; the output has its answers, refusals among them. */
+  /* The call did what it says. A script or a document was understood and run; its answers, refusals among them, are what
+   * is written. */
   WITGRAPH_UNDERSTOOD = 0,
-  /* The script wasn't understood and wasn't run. The output is one line, `line N: not understood`; witgraph_explain
-   * writes that line with the reason. */
+  /* The script or the document wasn't understood and wasn't run. Of a script the output is one line, `line N: not
+   * understood`; witgraph_explain writes that line with the reason. Of a document it is the first fault. */
   WITGRAPH_NOT_UNDERSTOOD = 1,
-  /* The output has no room for the answers: nothing is written, and *needed is their length. Call again with so many
+  /* The output has no room for what goes there: nothing is written, and *needed is its length. Call again with so many
    * bytes. */
   WITGRAPH_OUTPUT_TOO_SMALL = 2,
   /* The input isn't UTF-8: nothing is written, and *needed is 0. */
   WITGRAPH_INPUT_NOT_UTF8 = 3,
   /* Memory was refused outside a command: nothing is written, and *needed is 0. (If memory is refused to a command, its
-   * answer is `refused 28`, and the script goes on.) */
-  WITGRAPH_NO_MEMORY = 4
+   * answer is `refused 28`, and the script goes on.) A graph that stays is as before. */
+  WITGRAPH_NO_MEMORY = 4,
+  /* No graph is open in the witgraph_graph: nothing is done or written, and *needed is 0. */
+  WITGRAPH_NO_GRAPH = 5,
+  /* Only of witgraph_apply: memory was refused outside a command once commands were carried out. The graph is valid, and
+   * has what some of them did; there are no replies, and *needed is 0. */
+  WITGRAPH_CUT_SHORT = 6
 };
 
 /* Runs a script on an empty graph, and writes the answers that the program witgraph writes.
@@ -99,6 +106,57 @@ uint32_t witgraph_explain(const uint8_t *input, size_t length, uint8_t *output, 
  *
  * Arguments and status are as for witgraph_execute, with the document in place of the script. */
 uint32_t witgraph_json(const uint8_t *input, size_t length, uint8_t *output, size_t capacity, size_t *needed);
+
+/* A graph that stays between calls. The caller has this struct and sets it to zero before the first call, as by
+ *
+ *     witgraph_graph graph = {0};
+ *
+ * which means that no graph is open. From then on only the calls below write to it. While a graph is open the struct isn't
+ * copied and not let go: witgraph_close frees what the graph takes. Below, `graph` is not null, and aligned.
+ *
+ * What witgraph_apply and witgraph_write tell stays with the graph until the next of these two calls; witgraph_reply copies
+ * it. So no command is carried out twice because an output was too small. */
+typedef struct witgraph_graph {
+  void *session;
+} witgraph_graph;
+
+/* Opens an empty graph. If one is open in the struct, that one is closed.
+ *
+ * Status: WITGRAPH_UNDERSTOOD; WITGRAPH_NO_MEMORY, and then a graph that was open still is. */
+uint32_t witgraph_open(witgraph_graph *graph);
+
+/* Carries out the commands of a JSON document on the graph. The document is as for witgraph_json. If it has a graph of its
+ * own under "resolve", that takes the place of the open one before the first command; so a graph that is stored is opened by
+ * witgraph_open and the document {"resolve": .., "commands": []}. What is told is {"replies": [..]}, or the first fault of a
+ * document that isn't understood.
+ *
+ * input, length  the document, as for witgraph_json.
+ * needed         gets the number of bytes that are told, which witgraph_reply then copies. Not null, aligned, and apart from
+ *                the other arguments.
+ *
+ * Status: WITGRAPH_UNDERSTOOD; WITGRAPH_CUT_SHORT; and, with the graph as before, WITGRAPH_NOT_UNDERSTOOD,
+ * WITGRAPH_INPUT_NOT_UTF8, WITGRAPH_NO_MEMORY and WITGRAPH_NO_GRAPH. A refused command is a reply, and leaves the graph. */
+uint32_t witgraph_apply(witgraph_graph *graph, const uint8_t *input, size_t length, size_t *needed);
+
+/* Writes the whole graph, as JSON that a document may have under "resolve". The graph stays as it is.
+ *
+ * needed  as for witgraph_apply.
+ *
+ * Status: WITGRAPH_UNDERSTOOD, WITGRAPH_NO_MEMORY or WITGRAPH_NO_GRAPH. */
+uint32_t witgraph_write(witgraph_graph *graph, size_t *needed);
+
+/* Copies what the last witgraph_apply or witgraph_write told: nothing, if none was called or the last one told nothing. It may
+ * be copied again.
+ *
+ * output, capacity, needed  as for witgraph_execute.
+ *
+ * Status: WITGRAPH_UNDERSTOOD, WITGRAPH_OUTPUT_TOO_SMALL or WITGRAPH_NO_GRAPH. */
+uint32_t witgraph_reply(witgraph_graph *graph, uint8_t *output, size_t capacity, size_t *needed);
+
+/* Closes the graph, and frees what it takes. The struct then has no open graph, and may be let go or opened again.
+ *
+ * Status: WITGRAPH_UNDERSTOOD; WITGRAPH_NO_GRAPH if none was open. */
+uint32_t witgraph_close(witgraph_graph *graph);
 
 #ifdef __cplusplus
 }

@@ -1,5 +1,5 @@
-/* Has each allocation of a run refused in turn, and looks at what the two functions tell then and whether they free all:
- * ./no_memory < SCRIPT
+/* Has each allocation of a run refused in turn, and looks at what the functions tell then and whether they free all:
+ * ./no_memory DOCUMENT < SCRIPT
  *
  * It is linked with -Wl,--wrap=malloc,--wrap=realloc,--wrap=free, so that the library's calls come here first. */
 #include <stdio.h>
@@ -34,25 +34,49 @@ void __wrap_free(void *block) {
 
 typedef uint32_t function(const uint8_t *, size_t, uint8_t *, size_t, size_t *);
 
-static uint8_t script[1 << 20], whole[1 << 20], output[1 << 20];
+static uint8_t input[1 << 20], whole[1 << 20], output[1 << 20];
 
 static int fails(const char *what, long number) {
   fprintf(stderr, "at allocation %ld: %s\n", number, what);
   return 1;
 }
 
-/* Runs the script with another allocation refused each time, until none is. */
-static int each(const char *name, function *run, size_t length) {
+/* The replies to a document on a graph that stays, and the graph. After a call of which no command is carried out the graph
+ * is empty, as it was opened. */
+static uint32_t on_a_graph(const uint8_t *document, size_t length, uint8_t *text, size_t capacity, size_t *needed) {
+  static const char empty[] = "{\"graph\":{\"worlds\":[],\"interfaces\":[],\"types\":[],\"packages\":[]}";
+  static uint8_t kept[1 << 20];
+  witgraph_graph graph = {0};
+  size_t told = *needed = 0, more = 0;
+  uint32_t status = witgraph_open(&graph);
+  if (!status && !(status = witgraph_apply(&graph, document, length, &told))) {
+    witgraph_reply(&graph, text, capacity, &told);
+    if (!(status = witgraph_write(&graph, &more))) witgraph_reply(&graph, text + told, capacity - told, &more);
+    if (status) text[0] = '.';
+  } else if (status == WITGRAPH_NO_MEMORY && graph.session) {
+    long after = refused;
+    refused = 0;
+    if (told || witgraph_write(&graph, &told) || witgraph_reply(&graph, kept, sizeof kept, &told)) abort();
+    if (memcmp(kept, empty, sizeof empty - 1)) abort();
+    refused = after;
+  }
+  if (!status) *needed = told + more;
+  witgraph_close(&graph);
+  return status == WITGRAPH_CUT_SHORT ? WITGRAPH_NO_MEMORY : status;
+}
+
+/* Runs the input with another allocation refused each time, until none is; WORD is in the answers if that is told there. */
+static int each(const char *name, function *run, size_t length, const char *word) {
   size_t all, needed;
   long told = 0;
   refused = 0;
-  uint32_t status = run(script, length, whole, sizeof whole, &all);
+  uint32_t status = run(input, length, whole, sizeof whole, &all);
   if (status > WITGRAPH_NOT_UNDERSTOOD || held) return fails("the run itself", 0);
   for (;;) {
     asked = 0;
     refused++;
     memset(output, '.', sizeof output);
-    uint32_t got = run(script, length, output, sizeof output - 1, &needed);
+    uint32_t got = run(input, length, output, sizeof output - 1, &needed);
     if (held) return fails("a block is held", refused);
     if (asked < refused) break;
     if (got == WITGRAPH_NO_MEMORY) {
@@ -61,7 +85,7 @@ static int each(const char *name, function *run, size_t length) {
       return fails("another status", refused);
     } else if (needed != all || memcmp(output, whole, all)) {
       output[needed] = 0;
-      if (!strstr((char *)output, "refused 28 ")) return fails("other answers, and no word of it", refused);
+      if (!strstr((char *)output, word)) return fails("other answers, and no word of it", refused);
       told++;
     }
   }
@@ -70,7 +94,11 @@ static int each(const char *name, function *run, size_t length) {
   return 0;
 }
 
-int main(void) {
-  size_t length = fread(script, 1, sizeof script, stdin);
-  return each("execute", witgraph_execute, length) || each("explain", witgraph_explain, length);
+int main(int count, char **words) {
+  size_t length = fread(input, 1, sizeof input, stdin);
+  if (each("execute", witgraph_execute, length, "refused 28 ")) return 1;
+  if (each("explain", witgraph_explain, length, "refused 28 ")) return 1;
+  if (count != 2 || !freopen(words[1], "rb", stdin)) return fails("no document", 0);
+  length = fread(input, 1, sizeof input, stdin);
+  return each("graph", on_a_graph, length, "\"number\":28");
 }

@@ -4,9 +4,10 @@
 What needs no library is always tested, over the stored documents of examples/kinds. WITGRAPH_SHARED, the path of a
 libwitgraph.so, adds scripts and commands; WITGRAPH_JSON, the path of a build of the program `witgraph_json`, adds commands
 carried out by that. With WITGRAPH_INSTALLED the package that is installed is tested, with its own library, and not the one
-beside this file. Where mypy is installed, the types of the package and of graph.py are checked.
+beside this file. Where mypy is installed, the types of the package and of the examples are checked.
 """
 import concurrent.futures
+import ctypes
 import doctest
 import importlib.util
 import json
@@ -16,6 +17,7 @@ import pickle
 import subprocess
 import sys
 import tempfile
+import time
 import unittest
 
 HERE = os.path.dirname(os.path.abspath(__file__))
@@ -280,11 +282,17 @@ world example:kinds/small@1.2.0
 world"""
 
 
+def example(name):
+    """An example beside this file, as a module."""
+    loader = importlib.util.spec_from_file_location(name, os.path.join(HERE, f"{name}.py"))
+    module = importlib.util.module_from_spec(loader)
+    loader.loader.exec_module(module)
+    return module
+
+
 class Example(unittest.TestCase):
     def test_what_graph_tells(self):
-        loader = importlib.util.spec_from_file_location("graph", os.path.join(HERE, "graph.py"))
-        graph = importlib.util.module_from_spec(loader)
-        loader.loader.exec_module(graph)
+        graph = example("graph")
         shown = "\n".join(graph.Shown(wg.run_of(stored("kinds.out.json")).graph).lines())
         for part in SHOWN:
             self.assertIn(part, shown)
@@ -445,6 +453,105 @@ class Resolves(unittest.TestCase):
             wg.Resolve(wg.Graph(packages=[wg.Package("a:b", interfaces={"i": 0})]))
         self.assertEqual(raised.exception.path, ["resolve", "graph"])
 
+    def test_two_are_two(self):
+        one, other = wg.Resolve(), wg.Resolve()
+        one.apply([push(wg.UnresolvedPackage("a:b"))])
+        self.assertEqual((len(one.graph.packages), other.graph), (1, wg.Graph()))
+        self.assertEqual(json.loads(one.text), wg.whole_of(one.graph))
+
+    def test_threads_that_use_one_wait_for_each_other(self):
+        resolve = wg.Resolve()
+        with concurrent.futures.ThreadPoolExecutor(8) as pool:
+            replies = pool.map(lambda number: resolve.apply([push(wg.UnresolvedPackage(f"a:b{number}"))]), range(200))
+        self.assertEqual(sorted(reply.id for (reply,) in replies), list(range(200)))
+        self.assertEqual(len(resolve.graph.packages), 200)
+
+    def test_200_packages_one_by_one_as_in_one_document(self):
+        linking = example("two_hundred")
+
+        def at_once():
+            return wg.run([linking.push(number) for number in range(linking.PACKAGES)]).graph
+
+        def one_by_one():
+            return linking.linked().graph
+
+        self.assertEqual(one_by_one(), at_once())
+        last = list(linking.lines(one_by_one()))[-1]
+        self.assertEqual(last, "chain:p199/types turn: func(it: t) -> t; w imports 200")
+        self.assertLessEqual(least_time(one_by_one), 1.5 * least_time(at_once))
+
+
+def least_time(run):
+    """How long a run takes of the processor, in seconds: the least of five."""
+    times = []
+    for _ in range(5):
+        begun = time.process_time()
+        run()
+        times.append(time.process_time() - begun)
+    return min(times)
+
+
+EMPTY = (
+    b'{"graph":{"worlds":[],"interfaces":[],"types":[],"packages":[]},"details":{"worlds":[],"interfaces":[],"types":[]},'
+    b'"features":{"all":false,"names":[]},"track-rule":"published","sources":[]}'
+)
+
+
+@unittest.skipUnless(SHARED, "no libwitgraph.so")
+class Statuses(unittest.TestCase):
+    """What each call with a graph that stays tells: its status, and what it needs."""
+
+    def setUp(self):
+        self.library, self.graph = wg.Library()._library, wg.calls.GraphHandle()
+
+    def told(self, name, *between):
+        needed = ctypes.c_size_t(77)
+        return getattr(self.library, f"witgraph_{name}")(self.graph, *between, needed), needed.value
+
+    def apply(self, document):
+        return self.told("apply", document, len(document))
+
+    def reply(self, room):
+        """Also the output, which was dots."""
+        output = ctypes.create_string_buffer(b"." * room, room + 1)
+        return *self.told("reply", output, room), output.value
+
+    def is_closed(self):
+        self.assertEqual((self.apply(b'{"commands":[]}'), self.told("write"), self.reply(3)), ((5, 0), (5, 0), (5, 0, b"...")))
+        self.assertEqual(self.library.witgraph_close(self.graph), 5)
+
+    def has(self, text):
+        self.assertEqual((self.told("write"), self.reply(len(text))), ((0, len(text)), (0, len(text), text)))
+
+    def test_opened_and_closed(self):
+        self.is_closed()
+        self.assertEqual((self.library.witgraph_open(self.graph), self.reply(3)), (0, (0, 0, b"...")))
+        self.has(EMPTY)
+        self.apply(b'{"commands":[{"add-feature":"f"}]}')
+        self.assertEqual(self.library.witgraph_open(self.graph), 0)
+        self.has(EMPTY)
+        self.assertEqual(self.library.witgraph_close(self.graph), 0)
+        self.is_closed()
+
+    def test_commands(self):
+        self.library.witgraph_open(self.graph)
+        self.assertEqual(self.apply(b'{"commands":[{"add-feature":"f"}]}'), (0, 20))
+        for room, told in ((19, (2, 20, 19 * b".")), (20, (0, 20, b'{"replies":["done"]}')), (21, (0, 20, b'{"replies":["done"]}.'))):
+            self.assertEqual(self.reply(room), told)
+        named = EMPTY.replace(b'"names":[]', b'"names":["f"]')
+        fault = b'{"fault":{"path":["commands"],"offset":12,"expected":"a list"}}'
+        self.assertEqual((self.apply(b'{"commands":1}'), self.reply(len(fault))), ((1, len(fault)), (0, len(fault), fault)))
+        self.assertEqual((self.apply(b"push\xff"), self.reply(1)), ((3, 0), (0, 0, b".")))
+        unnamed = EMPTY.replace(b'"packages":[]', b'"packages":[{"name":"a:b","interfaces":{"i":0},"worlds":{}}]')
+        self.assertEqual(self.apply(b'{"commands":[],"resolve":' + unnamed + b"}")[0], 1)
+        self.has(named)
+        self.assertEqual(self.apply(b'{"commands":["package-order"]}'), (0, 29))
+        self.assertEqual(self.reply(29), (0, 29, b'{"replies":[{"packages":[]}]}'))
+        self.has(named)
+        self.assertEqual(self.apply(b'{"commands":[],"resolve":' + EMPTY + b"}"), (0, 14))
+        self.has(EMPTY)
+        self.library.witgraph_close(self.graph)
+
 
 class Programs(unittest.TestCase):
     """Programs in the place of `witgraph_json` that don't write a document."""
@@ -475,7 +582,7 @@ class Checked(unittest.TestCase):
     @unittest.skipUnless(importlib.util.find_spec("mypy"), "no mypy")
     def test_types(self):
         with tempfile.TemporaryDirectory() as cache:
-            words = [sys.executable, "-m", "mypy", "--strict", "--cache-dir", cache, *([] if INSTALLED else ["witgraph"]), "graph.py"]
+            words = [sys.executable, "-m", "mypy", "--strict", "--cache-dir", cache, *([] if INSTALLED else ["witgraph"]), "graph.py", "two_hundred.py"]
             ran = subprocess.run(words, cwd=HERE, capture_output=True, text=True, check=False)
         self.assertEqual((ran.returncode, ran.stderr), (0, ""), ran.stdout)
 

@@ -7,8 +7,10 @@ import json
 import mmap
 import os
 import subprocess
+import threading
+import weakref
 from collections.abc import Iterable
-from typing import Optional
+from typing import Any, Optional
 
 from .commands import AnyCommand
 from .data import Graph
@@ -16,9 +18,9 @@ from .documents import document_of, run_of
 from .errors import NotUnderstood, ProgramFailed
 from .replies import Run
 
-__all__ = ["Library", "execute", "explain", "library", "run", "run_by"]
+__all__ = ["Library", "OpenGraph", "execute", "explain", "library", "run", "run_by"]
 
-UNDERSTOOD, NOT_UNDERSTOOD, OUTPUT_TOO_SMALL, INPUT_NOT_UTF8, NO_MEMORY = range(5)
+UNDERSTOOD, NOT_UNDERSTOOD, OUTPUT_TOO_SMALL, INPUT_NOT_UTF8, NO_MEMORY, NO_GRAPH, CUT_SHORT = range(7)
 SMALLEST_ROOM = 1 << 16
 
 
@@ -43,6 +45,52 @@ class Rooms:
         self._free.append(room)
 
 
+class GraphHandle(ctypes.Structure):
+    """Where the library has a graph that stays: a null pointer where none is open."""
+
+    _fields_ = [("session", ctypes.c_void_p)]
+
+
+def expect_memory(status: int) -> None:
+    if status in (NO_MEMORY, CUT_SHORT):
+        raise MemoryError("witgraph: memory was refused")
+
+
+class OpenGraph:
+    """A graph that stays in the library, until nothing refers to this. Calls in several threads wait for each other."""
+
+    def __init__(self, library: ctypes.CDLL, rooms: Rooms):
+        self._library, self._rooms, self._lock = library, rooms, threading.Lock()
+        handle = GraphHandle()
+        expect_memory(library.witgraph_open(handle))
+        self._handle = handle
+        weakref.finalize(self, library.witgraph_close, handle)
+
+    def apply(self, document: bytes) -> bytes:
+        """Carries out the commands of a document, and gives what is replied, or the first fault. A `MemoryError` says that
+        they weren't carried out, or not to their end."""
+        needed = ctypes.c_size_t()
+        with self._lock:
+            expect_memory(self._library.witgraph_apply(self._handle, document, len(document), needed))
+            return self._reply(needed)
+
+    def write(self) -> bytes:
+        """The graph with what stands beside it."""
+        needed = ctypes.c_size_t()
+        with self._lock:
+            expect_memory(self._library.witgraph_write(self._handle, needed))
+            return self._reply(needed)
+
+    def _reply(self, needed: ctypes.c_size_t) -> bytes:
+        """What the last call left, which is so long."""
+        room = self._rooms.take(needed.value)
+        output = ctypes.byref(ctypes.c_char.from_buffer(room))
+        self._library.witgraph_reply(self._handle, output, len(room), needed)
+        written = room[: needed.value]
+        self._rooms.give_back(room)
+        return written
+
+
 class Library:
     """A shared library with the functions of include/witgraph.h: the one at a path, or that which WITGRAPH_SHARED names, or
     `libwitgraph.so` beside this file, or else the system's."""
@@ -55,11 +103,18 @@ class Library:
         except OSError as error:
             raise OSError(f"{error} (the wheel of a release has the library, and WITGRAPH_SHARED may name it)") from None
         self._rooms = Rooms()
-        size = ctypes.c_size_t
-        for name in ("witgraph_json", "witgraph_execute", "witgraph_explain"):
+        size, handle = ctypes.c_size_t, ctypes.POINTER(GraphHandle)
+        text, output, needed = [ctypes.c_char_p, size], [ctypes.c_void_p, size], ctypes.POINTER(size)
+        arguments: dict[str, list[Any]] = {
+            **dict.fromkeys(("witgraph_json", "witgraph_execute", "witgraph_explain"), [*text, *output, needed]),
+            **dict.fromkeys(("witgraph_open", "witgraph_close"), [handle]),
+            "witgraph_apply": [handle, *text, needed],
+            "witgraph_write": [handle, needed],
+            "witgraph_reply": [handle, *output, needed],
+        }
+        for name, types in arguments.items():
             function = getattr(self._library, name)
-            function.argtypes = [ctypes.c_char_p, size, ctypes.c_void_p, size, ctypes.POINTER(size)]
-            function.restype = ctypes.c_uint32
+            function.argtypes, function.restype = types, ctypes.c_uint32
 
     def _call(self, name: str, text: bytes) -> tuple[int, bytes]:
         """The status of a call and what it writes. The call is made twice only where its output is over four times as long as
@@ -74,9 +129,12 @@ class Library:
             room = self._rooms.take(needed.value)
         written = room[: needed.value]
         self._rooms.give_back(room)
-        if status == NO_MEMORY:
-            raise MemoryError("witgraph: memory was refused")
+        expect_memory(status)
         return status, written
+
+    def open_graph(self) -> OpenGraph:
+        """An empty graph that stays."""
+        return OpenGraph(self._library, self._rooms)
 
     def carry_out(self, document: bytes) -> bytes:
         """What comes out of a document."""

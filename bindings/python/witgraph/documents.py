@@ -18,9 +18,6 @@ from .replies import Reply, Run
 
 __all__ = ["document_of", "from_json", "graph_of", "run_of", "to_json", "whole_of"]
 
-# How a document begins that comes out, and what stands in it before its graph, with which it ends.
-REPLIES, RESOLVE = '{"replies":', ',"resolve":'
-DECODER = json.JSONDecoder()
 # What is left out where it is None; all else is written as null.
 OPTIONAL = {"docs", "stability", "span", "external_id", "result", "package", "world", "out", "keys", "deprecated"}
 
@@ -254,13 +251,8 @@ def text_of(value: Any) -> str:
 
 
 def document_of(commands: Iterable[AnyCommand], graph: Optional[Graph] = None) -> bytes:
-    """The document of commands on a graph, an empty one where it lacks, as `witgraph_json` reads it."""
-    return document_on(None if graph is None else text_of(whole_of(graph)), commands)
-
-
-def document_on(resolve: Optional[str], commands: Iterable[AnyCommand]) -> bytes:
-    """The document of commands on the graph of a text, an empty one where it lacks."""
-    begin = "" if resolve is None else f'"resolve":{resolve},'
+    """The document of commands on a graph, as `witgraph_json` reads it: on an empty one where it lacks, or on one that stays."""
+    begin = "" if graph is None else f'"resolve":{text_of(whole_of(graph))},'
     return f'{{{begin}"commands":{text_of(to_json(list(commands)))}}}'.encode()
 
 
@@ -285,15 +277,13 @@ def run_of(output: Union[str, bytes]) -> Run:
     return Run([from_json(Reply, it) for it in value["replies"]], graph_of(value["resolve"]))
 
 
-def replies_of(output: bytes) -> tuple[list[Reply], str]:
-    """The replies of a document that comes out, and the text of its graph, which isn't read. Raises a `Fault` where it tells
-    one."""
-    text = output.decode()
-    if not text.startswith(REPLIES):
-        raise fault_of(json.loads(text))
-    replies, end = DECODER.raw_decode(text, len(REPLIES))
-    return [from_json(Reply, it) for it in replies], text[end + len(RESOLVE) : -1]
+def replies_of(output: bytes) -> list[Reply]:
+    """The replies to commands on a graph that stays. Raises a `Fault` where one is told."""
+    value = json.loads(output)
+    if "fault" in value:
+        raise fault_of(value)
+    return [from_json(Reply, it) for it in value["replies"]]
 
 
-def graph_of_text(resolve: str) -> Graph:
+def graph_of_text(resolve: bytes) -> Graph:
     return graph_of(json.loads(resolve, object_pairs_hook=object_with_names))

@@ -7,42 +7,56 @@ from typing import Optional
 from .calls import Library, library
 from .commands import AnyCommand
 from .data import Graph
-from .documents import document_on, graph_of_text, replies_of, text_of, whole_of
-from .replies import Reply
+from .documents import document_of, graph_of_text, replies_of
+from .replies import Done, Merge, Pushed, Refused, Reply
 
 __all__ = ["Resolve"]
 
+# The replies behind which the graph, or what stands beside it, may be another one.
+CHANGES = (Done, Merge, Pushed, Refused)
+
 
 class Resolve:
-    """A graph that stays: `apply` changes it, and `graph` is its data.
+    """A graph that stays in the library: `apply` changes it, and `graph` is its data.
 
         resolve = wg.Resolve()
         resolve.apply([push])
         resolve.graph.worlds
 
-    It begins empty, or with a graph, of which a `Fault` is raised where it isn't valid. One thread at a time uses it.
+    It begins empty, or with a graph, of which a `Fault` is raised where it isn't valid. Each `apply` costs what it changes.
     """
 
     def __init__(self, graph: Optional[Graph] = None, by: Optional[Library] = None) -> None:
-        self._by = by
-        self._text = None if graph is None else text_of(whole_of(graph))
-        self._graph: Optional[Graph] = None
+        self._open = (by or library()).open_graph()
+        self._text = b""
+        self._graph = Graph()
+        self._may_differ = graph is not None
         if graph is not None:
-            self.apply([])
+            replies_of(self._open.apply(document_of([], graph)))
 
     def apply(self, commands: Iterable[AnyCommand]) -> list[Reply]:
         """Carries out commands, and gives a reply for each. Raises a `Fault` where one isn't a command; the graph is as before
-        then, as where memory is refused outside a command."""
-        output = (self._by or library()).carry_out(document_on(self._text, commands))
-        replies, text = replies_of(output)
-        if text != self._text:
-            self._text, self._graph = text, None
+        then. After a `MemoryError` it has what the commands did that were carried out."""
+        try:
+            replies = replies_of(self._open.apply(document_of(commands)))
+        except MemoryError:
+            self._may_differ = True
+            raise
+        self._may_differ |= any(isinstance(it, CHANGES) for it in replies)
         return replies
 
     @property
     def graph(self) -> Graph:
-        """The data of the graph, read when first asked for, and kept until a command changes something. Who changes these data
-        changes nothing here."""
-        if self._graph is None:
-            self._graph = Graph() if self._text is None else graph_of_text(self._text)
+        """The data of the graph, read when looked at, and kept until a command changes something. Who changes these data changes
+        nothing here."""
+        if self._may_differ:
+            text = self.text
+            if text != self._text:
+                self._text, self._graph = text, graph_of_text(text)
+            self._may_differ = False
         return self._graph
+
+    @property
+    def text(self) -> bytes:
+        """The graph with what stands beside it as JSON, as a document may begin with it (docs/JSON.md)."""
+        return self._open.write()

@@ -15,6 +15,6 @@ pub use crate::commands::{
     Document, FunctionPlace, FunctionSite, Mangling, Order, Question, Request,
 };
 pub use crate::replies::{Answer, CoreExport, CoreImport, CoreNames, Refusal, Response, Unshaped};
-pub use crate::runs::{execute, respond, responses_to};
+pub use crate::runs::{execute, fault_text, no_valid_graph, respond, responses_to};
 pub use wit_commands::Change;
 pub use wit_streams::{Watched, exit_status};

@@ -5,5 +5,5 @@ mod documents;
 mod orders;
 mod shapes;
 
-pub use documents::{execute, respond};
+pub use documents::{execute, fault_text, no_valid_graph, respond};
 pub use orders::responses_to;

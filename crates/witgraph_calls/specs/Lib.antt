@@ -1,1 +1,3 @@
+pub mod Graphs
 pub mod Output
+pub mod laws

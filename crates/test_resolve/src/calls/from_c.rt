@@ -1,9 +1,9 @@
 //! The calls that are offered to other languages: what they tell with ample memory, with too small an output, and of an
-//! input that is no text.
+//! input that is no text; and a graph that stays between calls.
 use crate::fixtures::assert_text;
 use std::alloc::Global;
 use std::process::Abort;
-use witgraph_calls::{execute, explain};
+use witgraph_calls::{Session, execute, explain};
 
 /// Which of the two calls.
 #[derive(Clone, Copy)]
@@ -99,5 +99,62 @@ const CALLS: [(Call, &[u8], usize, &str); 17] = [
 fn calls_tell_what_they_write_and_need(rt: HostRuntime) {
     for &(call, input, room, wanted) in &CALLS {
         assert_text(&rt, told(&rt, rt.alloc(), call, input, room), wanted);
+    }
+}
+
+/// Documents that one after another come to a graph that stays, each with the status, what is needed, and the text.
+const DOCUMENTS: [(&[u8], &str); 8] = [
+    (
+        b"{\"commands\":[{\"set-all-features\":true}]}",
+        "0 20 {\"replies\":[\"done\"]}",
+    ),
+    (
+        b"{\"commands\":1}",
+        "1 63 {\"fault\":{\"path\":[\"commands\"],\"offset\":12,\"expected\":\"a list\"}}",
+    ),
+    (b"push\xff", "3 0 "),
+    (
+        b"{\"commands\":[\"package-order\"]}",
+        "0 29 {\"replies\":[{\"packages\":[]}]}",
+    ),
+    (b"", WITH_ALL_FEATURES),
+    (
+        b"{\"commands\":[],\"resolve\":{\"graph\":{\"worlds\":[],\"interfaces\":[{\"name\":null,\"types\":{},\"functions\":{},\"package\":0}],\
+        \"types\":[],\"packages\":[]}}}",
+        "1 77 {\"fault\":{\"path\":[\"resolve\",\"graph\"],\"offset\":34,\"expected\":\"a valid graph\"}}",
+    ),
+    (b"", WITH_ALL_FEATURES),
+    (
+        b"{\"commands\":[],\"resolve\":{\"graph\":{\"worlds\":[],\"interfaces\":[],\"types\":[],\"packages\":[]}}}",
+        "0 14 {\"replies\":[]}",
+    ),
+];
+
+/// What is told where the graph is written.
+const WITH_ALL_FEATURES: &str =
+    "0 188 {\"graph\":{\"worlds\":[],\"interfaces\":[],\"types\":[],\"packages\":[]},\
+    \"details\":{\"worlds\":[],\"interfaces\":[],\"types\":[]},\"features\":{\"all\":true,\"names\":[]},\
+    \"track-rule\":\"published\",\"sources\":[]}";
+
+/// What is told of a document, or of the graph where there is none.
+fn told_of(rt: &impl Abort, alloc: Global, session: &mut Session, document: &[u8]) -> String {
+    let mut needed = 77;
+    let status = match document.len() {
+        0 => session.write(alloc, &mut needed),
+        _ => session.apply(alloc, document, &mut needed),
+    };
+    let reply = session.reply.as_str();
+    format!(in alloc; "{status} {needed} {reply}").expect(rt, "memory")
+}
+
+#[test]
+fn a_graph_stays_between_documents(rt: HostRuntime) {
+    let mut session = Session::new(rt.alloc());
+    for &(document, wanted) in &DOCUMENTS {
+        assert_text(
+            &rt,
+            told_of(&rt, rt.alloc(), &mut session, document),
+            wanted,
+        );
     }
 }

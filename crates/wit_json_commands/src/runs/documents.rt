@@ -69,7 +69,7 @@ fn given(alloc: Global, parts: ResolveParts) -> Result<Resolve, ReadError>
 }
 
 /// The fault of a document whose graph isn't valid.
-fn no_valid_graph(alloc: Global) -> Result<Resolve, ReadError>
+pub fn no_valid_graph(alloc: Global) -> Result<Resolve, ReadError>
     ensures { Reads result (Err invalid_fault) }
 {
     let fault = in_member(alloc, instead_of(alloc, Expected::ValidGraph), "graph");
@@ -77,7 +77,7 @@ fn no_valid_graph(alloc: Global) -> Result<Resolve, ReadError>
 }
 
 /// What comes out of a document that can't be read, or whose graph isn't valid.
-fn fault_text(alloc: Global, text: &str, fault: &Fault) -> Result<String, AllocError>
+pub fn fault_text(alloc: Global, text: &str, fault: &Fault) -> Result<String, AllocError>
     ensures { IfOk result
         (λ out. (offset : ℕ) × (string_bytes out ≡ compact (json_of_fault fault.now offset))) }
 {
