@@ -64,7 +64,8 @@ class OpenGraph:
         handle = GraphHandle()
         expect_memory(library.witgraph_open(handle))
         self._handle = handle
-        weakref.finalize(self, library.witgraph_close, handle)
+        # not at the end of a process, which may be a forked one
+        weakref.finalize(self, library.witgraph_close, handle).atexit = False
 
     def apply(self, document: bytes) -> bytes:
         """Carries out the commands of a document, and gives what is replied, or the first fault. A `MemoryError` says that
