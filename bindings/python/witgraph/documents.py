@@ -115,7 +115,7 @@ def read_union(choices: tuple[Any, ...], value: Any) -> Any:
     for it in choices:
         if not hasattr(it, "tag") and it is not type(None):
             plain = typing.get_origin(it) or getattr(it, "__supertype__", it)
-            if isinstance(value, list if plain is tuple else plain):
+            if isinstance(value, list if plain is tuple else dict if is_dataclass(plain) else plain):
                 return from_json(it, value)
     raise Unreadable(f"expected another form, found {json.dumps(value)[:60]}")
 
