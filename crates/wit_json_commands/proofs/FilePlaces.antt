@@ -12,7 +12,7 @@ use Rattle.std.specs.Option.{option_map_or}
 use Rattle.std.specs.Str.Pattern.{RFindsChar}
 use Rattle.std.specs.Str.Parse.{AllDigits, digits_value}
 use Rattle.wit_sources.specs.Lines.{column, is_line_feed, line_before, line_number}
-use Rattle.wit_sources.specs.Locations.{file_at, has_position, location_in, location_of, offset_in}
+use Rattle.wit_sources.specs.Locations.{file_at, has_position, location_in, location_of, location_text, offset_in}
 use Rattle.wit_sources.specs.SourceMap.{AreLaidOut, end_after}
 use Rattle.wit_sources.specs.Span.{OptionalSpan, start_of}
 use Rattle.wit_sources.specs.declared.source_map.SourceFile.{SourceFile}
@@ -121,59 +121,58 @@ column_within contents position =
 
 -- ---- the parts of a place
 
--- what splitting a number off a text gives
-pub record SplitsNumber (text : List ℕ) (r : Option (Bor (List ℕ) × ℕ)) : Type 0 where
-  pub number : (front : List ℕ) (n : ℕ) → n < 2 ^ 32 → text ≡ front ++ (codes ":" ++ decimal n) → IsSomeAnd r (λ split. (split.0.now ≡ front) × (split.1 ≡ n))
-  pub none : text ≡ codes "<unknown>" → r ≡ None
-
--- what two numbers that are split off one after another make of it: this place
-abbrev pub TellsPlace : Option (Bor (List ℕ) × ℕ) → Option FilePlace → Type 0
-TellsPlace first place =
-    MatchOption first (None ≡ place) (λ x. (second : Option (Bor (List ℕ) × ℕ)) → SplitsNumber x.0.now second
-    → MatchOption second (None ≡ place) (λ y. Some (record { path = y.0.now; line = y.1; column = x.1 }) ≡ place))
-
-module _ (file : SourceFile) (position : ℕ) where
-  path_and_line : (col : ℕ) → col ≡ column file.contents (offset_in file position) → (second : Option (Bor (List ℕ) × ℕ))
-      → IsSomeAnd second (λ split. (split.0.now ≡ file.path) × (split.1 ≡ line_number file.contents (offset_in file position)))
-      → MatchOption second (None ≡ Some (place_in file position)) (λ y. Some (record { path = y.0.now; line = y.1; column = col }) ≡ Some (place_in file position))
-  path_and_line col is None no = absurd no
-  path_and_line col is (Some y) parts = λ t. let it : Option FilePlace = Some (record { path = parts.0 t; line = parts.1 t; column = is t }) in it
-
-  by_file : length file.contents + 1 < 2 ^ 32 → (text : List ℕ) → text ≡ location_in file position → (first : Option (Bor (List ℕ) × ℕ)) → SplitsNumber text first
-      → TellsPlace first (Some (place_in file position))
-  by_file small text is first splits =
-      let line = line_number file.contents (offset_in file position) in
-      let col = column file.contents (offset_in file position) in
-      let whole : text ≡ file.path ++ (codes ":" ++ decimal line) ++ (codes ":" ++ decimal col) =
-      is ∙ ap (λ (l : List ℕ). file.path ++ l) (sym (append_assoc (codes ":") (decimal line) (codes ":" ++ decimal col))) ∙ sym (append_assoc file.path (codes ":" ++ decimal line) (codes ":" ++ decimal col)) in
-      split_off first (splits.number (file.path ++ (codes ":" ++ decimal line)) col (omega (arith, small, column_within file.contents (offset_in file position))) whole)
-    where
-      split_off : (first : Option (Bor (List ℕ) × ℕ))
-          → IsSomeAnd first (λ split. (split.0.now ≡ file.path ++ (codes ":" ++ decimal (line_number file.contents (offset_in file position)))) × (split.1 ≡ column file.contents (offset_in file position)))
-          → TellsPlace first (Some (place_in file position))
-      split_off None no = absurd no
-      split_off (Some x) parts =
-          λ second more. path_and_line x.1 parts.1 second
-          (more.number file.path (line_number file.contents (offset_in file position)) (omega (arith, small, line_within file.contents (offset_in file position))) parts.0)
-
-no_file : (first : Option (Bor (List ℕ) × ℕ)) → first ≡ None → TellsPlace first None
-no_file None is = refl
-no_file (Some x) is = absurd (false≢true (sym (ap is_some is)))
-
-by_found : (o : Option SourceFile) (position end : ℕ) → ((file : SourceFile) → o ≡ Some file → length file.contents < end) → end < 2 ^ 32 → (text : List ℕ)
-    → text ≡ option_map_or (λ (file : SourceFile). location_in file position) o (codes "<unknown>") → (first : Option (Bor (List ℕ) × ℕ)) → SplitsNumber text first
-    → TellsPlace first (option_map (λ (file : SourceFile). place_in file position) o)
-by_found None position end ends small text is first splits = no_file first (splits.none is)
-by_found (Some file) position end ends small text is first splits = let short = ends file refl in by_file file position (omega arith) text is first splits
-
--- the parts of what a source map tells
-pub tells_place : (files : List SourceFile) (span : OptionalSpan) (end : ℕ) → AreLaidOut 0 files end → end < 2 ^ 32 → (text : List ℕ) → text ≡ location_of files span
-    → (first : Option (Bor (List ℕ) × ℕ)) → SplitsNumber text first → TellsPlace first (file_place files span)
-tells_place files span end laid small text is first splits =
-    by_found (file_at files span) (start_of span) end (λ file there. file_ends end files span file laid there) small text is first splits
-
 pub matched_none : {T : Type 0} {o : Option T} {P : Type 0} {Q : T → Type 0} → MatchOption o P Q → o ≡ None → P
 matched_none {T} {o} {P} {Q} is none = subst (λ (w : Option T). MatchOption w P Q) none is
 
 pub matched_some : {T : Type 0} {o : Option T} {P : Type 0} {Q : T → Type 0} (x : T) → MatchOption o P Q → o ≡ Some x → Q x
 matched_some {T} {o} {P} {Q} x is some = subst (λ (w : Option T). MatchOption w P Q) some is
+
+-- where no colon is found there is no number behind one
+pub number_none : (text : List ℕ) (r : Option (Bor (List ℕ) × Bor (List ℕ))) → SplitsAtLast text r → r ≡ None → (front : List ℕ) (n : ℕ) → n < 2 ^ 32
+    → text ≡ front ++ (codes ":" ++ decimal n) → ⊥
+number_none text r splits none front n small is = matched_none (split_at text front (decimal n) is r splits (decimal_lacks n (omega arith))) none
+
+-- what stands before the last colon, and the digits behind it
+pub number_parts : (text : List ℕ) (r : Option (Bor (List ℕ) × Bor (List ℕ))) (x : Bor (List ℕ) × Bor (List ℕ)) → SplitsAtLast text r → r ≡ Some x → (front : List ℕ) (n : ℕ) → n < 2 ^ 32
+    → text ≡ front ++ (codes ":" ++ decimal n) → (x.0.now ≡ front) × (x.1.now ≡ decimal n)
+number_parts text r x splits some front n small is = matched_some x (split_at text front (decimal n) is r splits (decimal_lacks n (omega arith))) some
+
+-- a place as its front and its column
+pub column_last : (text path : List ℕ) (line col : ℕ) → text ≡ location_text path line col → text ≡ path ++ (codes ":" ++ decimal line) ++ (codes ":" ++ decimal col)
+column_last text path line col is =
+    is ∙ ap (λ (l : List ℕ). path ++ l) (sym (append_assoc (codes ":") (decimal line) (codes ":" ++ decimal col))) ∙ sym (append_assoc path (codes ":" ++ decimal line) (codes ":" ++ decimal col))
+
+-- what `place_parts` ensures
+pub record HasParts (text : List ℕ) (r : Option (Bor (List ℕ) × ℕ × ℕ)) : Type 0 where
+  pub parts : (path : List ℕ) (line col : ℕ) → line < 2 ^ 32 → col < 2 ^ 32 → text ≡ location_text path line col → IsSomeAnd r (λ of. (of.0.now ≡ path) × (of.1 ≡ line) × (of.2 ≡ col))
+  pub none : text ≡ codes "<unknown>" → r ≡ None
+
+abbrev pub TellsPlace : Option (Bor (List ℕ) × ℕ × ℕ) → Option FilePlace → Type 0
+TellsPlace r place = MatchOption r (None ≡ place) (λ of. Some (record { path = of.0.now; line = of.1; column = of.2 }) ≡ place)
+
+same_place : (file : SourceFile) (position : ℕ) (r : Option (Bor (List ℕ) × ℕ × ℕ))
+    → IsSomeAnd r (λ of. (of.0.now ≡ file.path) × (of.1 ≡ line_number file.contents (offset_in file position)) × (of.2 ≡ column file.contents (offset_in file position)))
+    → TellsPlace r (Some (place_in file position))
+same_place file position None no = absurd no
+same_place file position (Some of) parts = λ t. let it : Option FilePlace = Some (record { path = parts.0 t; line = parts.1 t; column = parts.2 t }) in it
+
+no_file : (r : Option (Bor (List ℕ) × ℕ × ℕ)) → r ≡ None → TellsPlace r None
+no_file None is = refl
+no_file (Some x) is = absurd (false≢true (sym (ap is_some is)))
+
+by_found : (o : Option SourceFile) (position end : ℕ) → ((file : SourceFile) → o ≡ Some file → length file.contents < end) → end < 2 ^ 32 → (text : List ℕ)
+    → text ≡ option_map_or (λ (file : SourceFile). location_in file position) o (codes "<unknown>") → (r : Option (Bor (List ℕ) × ℕ × ℕ)) → HasParts text r
+    → TellsPlace r (option_map (λ (file : SourceFile). place_in file position) o)
+by_found None position end ends small text is r has = no_file r (has.none is)
+by_found (Some file) position end ends small text is r has =
+    let offset = offset_in file position in
+    let short = ends file refl in
+    let line_fits : line_number file.contents offset < 2 ^ 32 = omega (arith, line_within file.contents offset) in
+    let column_fits : column file.contents offset < 2 ^ 32 = omega (arith, column_within file.contents offset) in
+    same_place file position r (has.parts file.path (line_number file.contents offset) (column file.contents offset) line_fits column_fits is)
+
+-- the parts of what a source map tells of a span are its place
+pub tells_place : (files : List SourceFile) (span : OptionalSpan) (end : ℕ) → AreLaidOut 0 files end → end < 2 ^ 32 → (text : List ℕ) → text ≡ location_of files span
+    → (r : Option (Bor (List ℕ) × ℕ × ℕ)) → HasParts text r → TellsPlace r (file_place files span)
+tells_place files span end laid small text is r has =
+    by_found (file_at files span) (start_of span) end (λ file there. file_ends end files span file laid there) small text is r has

@@ -1,5 +1,6 @@
 //! Places in files by path, line and column, as data.
 ghost use Rattle.std.specs.Prelude.{◌≡◌, ◌<◌, ◌++◌, ◌^◌, ℕ, List, None, IfOk, IsSomeAnd, codes, decimal};
+ghost use Rattle.wit_sources.specs.Locations.{location_text};
 ghost use Rattle.wit_json_commands.specs.FilePlaces.{file_place};
 ghost use Rattle.wit_json_commands.specs.RefusalJson.{json_of_file_place};
 
@@ -16,8 +17,6 @@ pub struct FilePlace {
 }
 
 /// Where a span begins; None where it is unknown or in no file. The only error is want of memory.
-///
-/// A source map tells a place as `path:line:column`, of which these are the parts.
 pub fn file_place(
     alloc: Global,
     files: &SourceMap,
@@ -28,28 +27,37 @@ pub fn file_place(
     // Files end before position 2^32, so no line and no column is past it.
     let _end = files.end();
     let location = files.render_location(alloc, span)?;
-    let Some((rest, column)) = split_number(&location) else {
-        return Ok(None);
-    };
-    let Some((path, line)) = split_number(rest) else {
-        return Ok(None);
-    };
-    let path = Text::try_from_str(alloc, path)?;
-    Ok(Some(FilePlace { path, line, column }))
+    match place_parts(&location) {
+        Some((path, line, column)) => {
+            let path = Text::try_from_str(alloc, path)?;
+            Ok(Some(FilePlace { path, line, column }))
+        }
+        None => Ok(None),
+    }
+}
+
+/// The parts of a place that is told as `path:line:column`; None of `<unknown>`.
+fn place_parts(text: &str) -> Option<(&str, u32, u32)>
+    ensures parts { (path : List ℕ) (line column : ℕ) → line < 2 ^ 32 → column < 2 ^ 32
+        → text.now ≡ location_text path line column
+        → IsSomeAnd result (λ of. (of.0.now ≡ path) × (of.1 ≡ line) × (of.2 ≡ column)) }
+    ensures none { text.now ≡ codes "<unknown>" → result ≡ None }
+{
+    let (rest, column) = split_number(text)?;
+    let (path, line) = split_number(rest)?;
+    Some((path, line, column))
 }
 
 /// What stands before the last colon of a text, and the number behind it.
 fn split_number(text: &str) -> Option<(&str, u32)>
     ensures number { (front : List ℕ) (n : ℕ) → n < 2 ^ 32
         → text.now ≡ front ++ (codes ":" ++ decimal n)
-        → IsSomeAnd result (λ split. (split.0.now ≡ front) × (split.1 ≡ n)) }
+        → IsSomeAnd result (λ of. (of.0.now ≡ front) × (of.1 ≡ n)) }
     ensures none { text.now ≡ codes "<unknown>" → result ≡ None }
 {
     let (front, digits) = text.rsplit_once(':')?;
-    match digits.parse::<u32>() {
-        Ok(number) => Some((front, number)),
-        Err(_) => None,
-    }
+    let number = digits.parse::<u32>().ok()?;
+    Some((front, number))
 }
 
 impl WriteJson for FilePlace {
