@@ -144,17 +144,17 @@ column_last text path line col is =
 
 -- what `place_parts` ensures
 pub record HasParts (text : List ℕ) (r : Option (Bor (List ℕ) × ℕ × ℕ)) : Type 0 where
-  pub parts : (path : List ℕ) (line col : ℕ) → line < 2 ^ 32 → col < 2 ^ 32 → text ≡ location_text path line col → IsSomeAnd r (λ of. (of.0.now ≡ path) × (of.1 ≡ line) × (of.2 ≡ col))
+  pub parts : (path : List ℕ) (line col : ℕ) → line < 2 ^ 32 → col < 2 ^ 32 → text ≡ location_text path line col → IsSomeAnd r (λ p. (p.0.now ≡ path) × (p.1 ≡ line) × (p.2 ≡ col))
   pub none : text ≡ codes "<unknown>" → r ≡ None
 
 abbrev pub TellsPlace : Option (Bor (List ℕ) × ℕ × ℕ) → Option FilePlace → Type 0
-TellsPlace r place = MatchOption r (None ≡ place) (λ of. Some (record { path = of.0.now; line = of.1; column = of.2 }) ≡ place)
+TellsPlace r place = MatchOption r (None ≡ place) (λ p. Some (record { path = p.0.now; line = p.1; column = p.2 }) ≡ place)
 
 same_place : (file : SourceFile) (position : ℕ) (r : Option (Bor (List ℕ) × ℕ × ℕ))
-    → IsSomeAnd r (λ of. (of.0.now ≡ file.path) × (of.1 ≡ line_number file.contents (offset_in file position)) × (of.2 ≡ column file.contents (offset_in file position)))
+    → IsSomeAnd r (λ p. (p.0.now ≡ file.path) × (p.1 ≡ line_number file.contents (offset_in file position)) × (p.2 ≡ column file.contents (offset_in file position)))
     → TellsPlace r (Some (place_in file position))
 same_place file position None no = absurd no
-same_place file position (Some of) parts = λ t. let it : Option FilePlace = Some (record { path = parts.0 t; line = parts.1 t; column = parts.2 t }) in it
+same_place file position (Some p) parts = λ t. let it : Option FilePlace = Some (record { path = parts.0 t; line = parts.1 t; column = parts.2 t }) in it
 
 no_file : (r : Option (Bor (List ℕ) × ℕ × ℕ)) → r ≡ None → TellsPlace r None
 no_file None is = refl

@@ -40,7 +40,7 @@ pub fn file_place(
 fn place_parts(text: &str) -> Option<(&str, u32, u32)>
     ensures parts { (path : List ℕ) (line column : ℕ) → line < 2 ^ 32 → column < 2 ^ 32
         → text.now ≡ location_text path line column
-        → IsSomeAnd result (λ of. (of.0.now ≡ path) × (of.1 ≡ line) × (of.2 ≡ column)) }
+        → IsSomeAnd result (λ p. (p.0.now ≡ path) × (p.1 ≡ line) × (p.2 ≡ column)) }
     ensures none { text.now ≡ codes "<unknown>" → result ≡ None }
 {
     let (rest, column) = split_number(text)?;
@@ -52,7 +52,7 @@ fn place_parts(text: &str) -> Option<(&str, u32, u32)>
 fn split_number(text: &str) -> Option<(&str, u32)>
     ensures number { (front : List ℕ) (n : ℕ) → n < 2 ^ 32
         → text.now ≡ front ++ (codes ":" ++ decimal n)
-        → IsSomeAnd result (λ of. (of.0.now ≡ front) × (of.1 ≡ n)) }
+        → IsSomeAnd result (λ p. (p.0.now ≡ front) × (p.1 ≡ n)) }
     ensures none { text.now ≡ codes "<unknown>" → result ≡ None }
 {
     let (front, digits) = text.rsplit_once(':')?;
