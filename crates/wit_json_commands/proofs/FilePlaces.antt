@@ -1,5 +1,5 @@
 -- The parts of a place that a source map tells as `path:line:column`.
-use Rattle.std.proofs.Common.{◌≡◌, ◌∙◌, ◌<◌, ◌≤◌, ◌+◌, ◌-◌, ◌^◌, ℕ, zero, suc, List, [], ◌∷◌, ◌++◌, Bool, true, false, cond, Option, None, Some, MatchOption, IsSomeAnd, Bor, length, get_or, take, drop, codes, decimal, find, is_some, unwrap_or, option_map, ap, sym, refl, subst, not, append_assoc, arith, length-append, length-drop, length-take, get_or-drop, get_or-append-add, take_at, drop_at, count_by, ⊎_elim}
+use Rattle.std.proofs.Common.{◌≡◌, ◌∙◌, ◌<◌, ◌≤◌, ◌+◌, ◌-◌, ◌^◌, ℕ, zero, suc, List, [], ◌∷◌, ◌++◌, Bool, true, false, cond, Option, None, Some, Result, Ok, MatchOption, IsSomeAnd, Bor, length, get_or, take, drop, codes, decimal, find, is_some, unwrap_or, option_map, ap, sym, refl, subst, not, append_assoc, arith, length-append, length-drop, length-take, get_or-drop, get_or-append-add, take_at, drop_at, count_by, ⊎_elim}
 use Rattle.std.proofs.lemmas.Bool.{cases_order, false≢true}
 use Rattle.std.proofs.lemmas.Fmt.{digits_decimal}
 use Rattle.std.proofs.lemmas.List.Sums.{count_by-le-length}
@@ -9,6 +9,7 @@ use Rattle.std.proofs.lemmas.Str.Pattern.{NoCharPasses-char}
 use Rattle.std.specs.Fmt.{is_char_start}
 use Rattle.std.specs.List.{suffix_len}
 use Rattle.std.specs.Option.{option_map_or}
+use Rattle.std.specs.Result.{result_ok}
 use Rattle.std.specs.Str.Pattern.{RFindsChar}
 use Rattle.std.specs.Str.Parse.{AllDigits, digits_value}
 use Rattle.wit_sources.specs.Lines.{column, is_line_feed, line_before, line_number}
@@ -72,17 +73,23 @@ module _ (text xs ys : List ℕ) (is : text ≡ xs ++ 58 ∷ ys) where
       (some.3 ∙ ap (λ (l : List ℕ). take some.0 l) is ∙ take_at xs (58 ∷ ys) some.0 (sym at.0),
       some.4 ∙ ap (λ (l : List ℕ). drop some.1 l) (is ∙ sym (append_assoc xs (58 ∷ []) ys)) ∙ drop_at (xs ++ 58 ∷ []) ys some.1 (omega (arith, length-append xs (58 ∷ []), at.1)))
 
+above : (a : ℕ) → 58 < a → a ≡ 58 → ⊥
+above a more is = omega arith
+
+below : (a : ℕ) → a < 58 → a ≡ 58 → ⊥
+below a less is = omega arith
+
 unknown_lacks : (i : ℕ) → get_or (codes "<unknown>") i 0 ≡ 58 → ⊥
-unknown_lacks zero e = let no : 60 ≡ 58 = e in omega arith
-unknown_lacks (suc zero) e = let no : 117 ≡ 58 = e in omega arith
-unknown_lacks (suc (suc zero)) e = let no : 110 ≡ 58 = e in omega arith
-unknown_lacks (suc (suc (suc zero))) e = let no : 107 ≡ 58 = e in omega arith
-unknown_lacks (suc (suc (suc (suc zero)))) e = let no : 110 ≡ 58 = e in omega arith
-unknown_lacks (suc (suc (suc (suc (suc zero))))) e = let no : 111 ≡ 58 = e in omega arith
-unknown_lacks (suc (suc (suc (suc (suc (suc zero)))))) e = let no : 119 ≡ 58 = e in omega arith
-unknown_lacks (suc (suc (suc (suc (suc (suc (suc zero))))))) e = let no : 110 ≡ 58 = e in omega arith
-unknown_lacks (suc (suc (suc (suc (suc (suc (suc (suc zero)))))))) e = let no : 62 ≡ 58 = e in omega arith
-unknown_lacks (suc (suc (suc (suc (suc (suc (suc (suc (suc i))))))))) e = let no : 0 ≡ 58 = e in omega arith
+unknown_lacks zero e = above 60 (omega arith) e
+unknown_lacks (suc zero) e = above 117 (omega arith) e
+unknown_lacks (suc (suc zero)) e = above 110 (omega arith) e
+unknown_lacks (suc (suc (suc zero))) e = above 107 (omega arith) e
+unknown_lacks (suc (suc (suc (suc zero)))) e = above 110 (omega arith) e
+unknown_lacks (suc (suc (suc (suc (suc zero))))) e = above 111 (omega arith) e
+unknown_lacks (suc (suc (suc (suc (suc (suc zero)))))) e = above 119 (omega arith) e
+unknown_lacks (suc (suc (suc (suc (suc (suc (suc zero))))))) e = above 110 (omega arith) e
+unknown_lacks (suc (suc (suc (suc (suc (suc (suc (suc zero)))))))) e = above 62 (omega arith) e
+unknown_lacks (suc (suc (suc (suc (suc (suc (suc (suc (suc i))))))))) e = below 0 (omega arith) e
 
 -- `<unknown>` has no colon
 pub unknown_whole : (text : List ℕ) (r : Option (Bor (List ℕ) × Bor (List ℕ))) → SplitsAtLast text r → text ≡ codes "<unknown>" → is_some r ≡ false
@@ -98,14 +105,15 @@ laid_upto from end (file ∷ files) laid = let rest = laid_upto (end_after file.
 -- a file that is found ends before the end
 found_ends : (test : SourceFile → Bool) (from end : ℕ) (files : List SourceFile) (file : SourceFile) → AreLaidOut from files end → find test files ≡ Some file → length file.contents < end
 found_ends test from end [] file laid is = absurd (false≢true (ap is_some is))
-found_ends test from end (first ∷ files) file laid is = by (test first) is
+found_ends test from end (first ∷ files) file laid is =
+    by (test first) (λ later. found_ends test (end_after first.start first.contents) end files file laid.1 later) is
   where
-    by : (b : Bool) → cond b (Some first) (find test files) ≡ Some file → length file.contents < end
-    by true same =
-        let rest = laid_upto (end_after first.start first.contents) end files laid.1 in
+    by : (b : Bool) → (find test files ≡ Some file → length file.contents < end) → cond b (Some first) (find test files) ≡ Some file → length file.contents < end
+    by true rest same =
+        let upto = laid_upto (end_after first.start first.contents) end files laid.1 in
         let long : length first.contents ≡ length file.contents = ap (λ (o : Option SourceFile). length (unwrap_or o first).contents) same in
         omega arith
-    by false later = found_ends test (end_after first.start first.contents) end files file laid.1 later
+    by false rest later = rest later
 
 file_ends : (end : ℕ) (files : List SourceFile) (span : OptionalSpan) (file : SourceFile) → AreLaidOut 0 files end → file_at files span ≡ Some file → length file.contents < end
 file_ends end files None file laid is = absurd (false≢true (ap is_some is))
@@ -121,21 +129,28 @@ column_within contents position =
 
 -- ---- the parts of a place
 
-pub matched_none : {T : Type 0} {o : Option T} {P : Type 0} {Q : T → Type 0} → MatchOption o P Q → o ≡ None → P
-matched_none {T} {o} {P} {Q} is none = subst (λ (w : Option T). MatchOption w P Q) none is
+pub matched_none : {T : Type 0} {o : Option T} (P : Type 0) (Q : T → Type 0) → MatchOption o P Q → o ≡ None → P
+matched_none {T} {o} P Q is none = subst (λ (w : Option T). MatchOption w P Q) none is
 
-pub matched_some : {T : Type 0} {o : Option T} {P : Type 0} {Q : T → Type 0} (x : T) → MatchOption o P Q → o ≡ Some x → Q x
-matched_some {T} {o} {P} {Q} x is some = subst (λ (w : Option T). MatchOption w P Q) some is
+pub matched_some : {T : Type 0} {o : Option T} (P : Type 0) (Q : T → Type 0) (x : T) → MatchOption o P Q → o ≡ Some x → Q x
+matched_some {T} {o} P Q x is some = subst (λ (w : Option T). MatchOption w P Q) some is
 
 -- where no colon is found there is no number behind one
 pub number_none : (text : List ℕ) (r : Option (Bor (List ℕ) × Bor (List ℕ))) → SplitsAtLast text r → r ≡ None → (front : List ℕ) (n : ℕ) → n < 2 ^ 32
     → text ≡ front ++ (codes ":" ++ decimal n) → ⊥
-number_none text r splits none front n small is = matched_none (split_at text front (decimal n) is r splits (decimal_lacks n (omega arith))) none
+number_none text r splits none front n small is = matched_none _ _ (split_at text front (decimal n) is r splits (decimal_lacks n (omega arith))) none
 
 -- what stands before the last colon, and the digits behind it
 pub number_parts : (text : List ℕ) (r : Option (Bor (List ℕ) × Bor (List ℕ))) (x : Bor (List ℕ) × Bor (List ℕ)) → SplitsAtLast text r → r ≡ Some x → (front : List ℕ) (n : ℕ) → n < 2 ^ 32
     → text ≡ front ++ (codes ":" ++ decimal n) → (x.0.now ≡ front) × (x.1.now ≡ decimal n)
-number_parts text r x splits some front n small is = matched_some x (split_at text front (decimal n) is r splits (decimal_lacks n (omega arith))) some
+number_parts text r x splits some front n small is = matched_some _ _ x (split_at text front (decimal n) is r splits (decimal_lacks n (omega arith))) some
+
+-- a number that is parsed is the one that stands there
+pub number_is : {E : Type 0} (parsed : Result ℕ E) (o : Option ℕ) (n number : ℕ) → parsed ≡ Ok n → o ≡ result_ok parsed → o ≡ Some number → number ≡ n
+number_is parsed o n number is made some = ap (λ (w : Option ℕ). unwrap_or w number) (sym some ∙ made ∙ ap result_ok is)
+
+pub number_there : {E : Type 0} (parsed : Result ℕ E) (o : Option ℕ) (n : ℕ) → parsed ≡ Ok n → o ≡ result_ok parsed → o ≡ None → ⊥
+number_there parsed o n is made none = false≢true (ap is_some (sym none ∙ made ∙ ap result_ok is))
 
 -- a place as its front and its column
 pub column_last : (text path : List ℕ) (line col : ℕ) → text ≡ location_text path line col → text ≡ path ++ (codes ":" ++ decimal line) ++ (codes ":" ++ decimal col)
@@ -153,7 +168,7 @@ TellsPlace r place = MatchOption r (None ≡ place) (λ p. Some (record { path =
 same_place : (file : SourceFile) (position : ℕ) (r : Option (Bor (List ℕ) × ℕ × ℕ))
     → IsSomeAnd r (λ p. (p.0.now ≡ file.path) × (p.1 ≡ line_number file.contents (offset_in file position)) × (p.2 ≡ column file.contents (offset_in file position)))
     → TellsPlace r (Some (place_in file position))
-same_place file position None no = absurd no
+same_place file position None none = absurd none
 same_place file position (Some p) parts = λ t. let it : Option FilePlace = Some (record { path = parts.0 t; line = parts.1 t; column = parts.2 t }) in it
 
 no_file : (r : Option (Bor (List ℕ) × ℕ × ℕ)) → r ≡ None → TellsPlace r None

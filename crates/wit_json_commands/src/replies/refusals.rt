@@ -61,9 +61,9 @@ fn error_spans(
             } else {
                 package_span(graph, name)
             };
-            vec![in alloc; *span1, other]
+            Ok(vec![in alloc; *span1, other]?)
         }
-        kind => vec![in alloc; kind.span()],
+        kind => Ok(vec![in alloc; kind.span()]?),
     }
 }
 
