@@ -69,9 +69,10 @@ module _ (text xs ys : List ℕ) (is : text ≡ xs ++ 58 ∷ ys) where
   pub split_at : (r : Option (Bor (List ℕ) × Bor (List ℕ))) → SplitsAtLast text r → LacksColon ys → MatchOption r ⊥ (λ x. (x.0.now ≡ xs) × (x.1.now ≡ ys))
   split_at None none free = NoCharPasses-char 58 text (length xs) none (omega arith) (omega (arith, long)) seam
   split_at (Some x) some free =
-      let at = last_at some.0 some.1 some.2 (omega (arith, some.7)) free in
-      (some.3 ∙ ap (λ (l : List ℕ). take some.0 l) is ∙ take_at xs (58 ∷ ys) some.0 (sym at.0),
-      some.4 ∙ ap (λ (l : List ℕ). drop some.1 l) (is ∙ sym (append_assoc xs (58 ∷ []) ys)) ∙ drop_at (xs ++ 58 ∷ []) ys some.1 (omega (arith, length-append xs (58 ∷ []), at.1)))
+      let at = last_at some.0 some.1 some.2 (omega (arith, some.7)) free in (
+        some.3 ∙ ap (λ (l : List ℕ). take some.0 l) is ∙ take_at xs (58 ∷ ys) some.0 (sym at.0),
+        some.4 ∙ ap (λ (l : List ℕ). drop some.1 l) (is ∙ sym (append_assoc xs (58 ∷ []) ys)) ∙ drop_at (xs ++ 58 ∷ []) ys some.1 (omega (arith, length-append xs (58 ∷ []), at.1)),
+      )
 
 above : (a : ℕ) → 58 < a → a ≡ 58 → ⊥
 above a more is = omega arith

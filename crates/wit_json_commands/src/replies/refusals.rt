@@ -85,11 +85,7 @@ fn file_places(
 }
 
 /// The steps of a way with their places.
-fn way_steps(
-    alloc: Global,
-    files: &SourceMap,
-    way: &[Arrow],
-) -> Result<Items<WayStep>, AllocError>
+fn way_steps(alloc: Global, files: &SourceMap, way: &[Arrow]) -> Result<Items<WayStep>, AllocError>
     ensures { IfOk result (λ steps. steps ≡ map (way_step files.now.files) way.now) }
 {
     let mut steps = Items::new(alloc);
