@@ -20,7 +20,7 @@ import sys
 
 import compare
 import model
-from model import data, labels, reader
+from model import data, labels, reader, refusals
 from model.scripts import Commands, words_of
 
 PRINTS = {"print"}
@@ -299,10 +299,10 @@ def asked_words(command):
 
 
 def is_told(command, reply):
-    """Whether a refusal is told with its text first, and at the end with what was asked and its number."""
+    """Whether a refusal is told with its text first, at the end with what was asked and its number, and by the same data."""
     error, rendered = reply["refused"]["error"], reply["refused"]["rendered"]
     end = f"\n      = {asked_words(command)}\n      = {error['number']} in docs/REFUSALS.md"
-    return error["text"] in rendered.removesuffix(end) and rendered.endswith(end)
+    return rendered.startswith(error["text"]) and rendered.endswith(end) and not any(refusals.faults(reply["refused"]))
 
 
 def reply_lines(graph, command, reply):
@@ -330,8 +330,18 @@ def reply_lines(graph, command, reply):
 
 def refused_lines(command, reply):
     error = reply["refused"]["error"]
-    told = [] if is_told(command, reply) else [reply["refused"]["rendered"]]
+    told = [] if is_told(command, reply) else [json.dumps(reply["refused"])]
     return f"refused {error['number']} {error['text']}".split("\n") + told
+
+
+def misplaced(output):
+    """The places of refusals at which their spans don't begin in the files that there are at the end."""
+    for reply in output["replies"]:
+        refused = (reply["merge"]["reply"] if "merge" in reply else reply).get("refused") if isinstance(reply, dict) else None
+        if refused and refused["places"] and "span" in refused["error"]:
+            place = refusals.place_at(output["resolve"]["sources"], refused["error"]["span"])
+            if place != refused["places"][0]:
+                yield f"{refused['places'][0]} is {place}"
 
 
 def run(program, text):
@@ -369,6 +379,8 @@ def differs(program, name, script):
         output = json.loads(printed)
         if json.dumps(output, separators=(",", ":"), ensure_ascii=False) != printed:
             return f"{name}: not compact"
+        if wrong := list(misplaced(output)):
+            return f"{name}: {wrong}"
         graph = output["resolve"]["graph"]
         ours = [line for it in zip(document["commands"], output["replies"]) for line in reply_lines(graph, *it)]
     except (ValueError, KeyError) as fault:

@@ -301,11 +301,14 @@ class Script:
 # ---- documents
 
 
+SPANS = {"span", "span1", "span2"}
+
+
 def without_spans(made):
     """A reply without spans: the files of a push that is refused may stay, and what follows them then stands further on."""
     if isinstance(made, list):
         return [without_spans(it) for it in made]
-    return {key: without_spans(it) for key, it in made.items() if key != "span"} if isinstance(made, dict) else made
+    return {key: without_spans(it) for key, it in made.items() if key not in SPANS} if isinstance(made, dict) else made
 
 
 def told_of(out):

@@ -7,7 +7,7 @@ makes random scripts and has PROGRAM explain them, and the first ones as documen
 `test_explanations` and `witgraph_json` as `rt ci` leaves them in their folders `out`. The status is 1 where a refusal of
 4, 6, 22 or 23 tells no way, or one that doesn't begin with what the refusal names (4), or doesn't lead back to it (6, 22),
 or to where it begins (23), or of which a step between interfaces is told by a line of a world; or where a document's
-refusals tell other ways. No clause says that there is a way.
+refusals tell other ways, or other data than their texts. No clause says that there is a way.
 """
 import argparse
 import collections
@@ -18,6 +18,7 @@ import re
 import subprocess
 import sys
 
+from model import refusals
 from script_documents import document_of
 
 TOP = os.path.dirname(os.path.dirname(os.path.abspath(__file__)))
@@ -192,11 +193,11 @@ def faults(told):
     return counts, wrong
 
 
-def rendered_in(value):
-    """The refusals that a document tells, in order."""
+def refused_in(value):
+    """What a document tells of each refusal, in order."""
     if isinstance(value, dict):
-        return [value["rendered"]] if "rendered" in value else [it for part in value.values() for it in rendered_in(part)]
-    return [it for part in value for it in rendered_in(part)] if isinstance(value, list) else []
+        return [value] if "rendered" in value else [it for part in value.values() for it in refused_in(part)]
+    return [it for part in value for it in refused_in(part)] if isinstance(value, list) else []
 
 
 def ways_in(text):
@@ -215,8 +216,10 @@ def differing(program, cases, told):
         if case not in told or document is None or "= way: " not in told[case]:
             continue
         run = subprocess.run([program], input=json.dumps(document), text=True, capture_output=True, check=False)
-        ways = ways_in("\n".join(rendered_in(json.loads(run.stdout)["replies"])))
+        refused = refused_in(json.loads(run.stdout)["replies"])
+        ways = ways_in("\n".join(it["rendered"] for it in refused))
         count += 1
+        differ += [f"{case}: {fault}" for it in refused for fault in refusals.faults(it)]
         differ += [f"{case}: a document tells other ways"] if ways != ways_in(told[case]) else []
     return count, differ
 

@@ -47,6 +47,11 @@ def push(package, *deps):
     return wg.PushGroups(wg.UnresolvedPackageGroup(package), [wg.UnresolvedPackageGroup(it) for it in deps])
 
 
+def a_refusal():
+    way = [wg.WayStep("a:b", "c:d"), wg.WayStep("c:d", "a:b", wg.Place("c.wit", 2, 5))]
+    return wg.Refusal(6, "package-cycle", "no", (1, 2), wg.PackageCycle("a:b"), [wg.Place("a.wit", 1, 3)], way, "no at 1")
+
+
 def one_of_each_error():
     """An error of each class, and its text."""
     return [
@@ -54,7 +59,7 @@ def one_of_each_error():
         (wg.NotUnderstood(2, "line 2: not understood"), "line 2: not understood"),
         (wg.ProgramFailed("./p", 1, "no memory\n"), "./p ended with status 1: no memory"),
         (wg.ProgramFailed("./p", -9, ""), "./p was ended by signal 9: nothing on standard error"),
-        (wg.Refusal(26, "world-selection", "no", (1, 2), "no at 1"), "no at 1"),
+        (a_refusal(), "no at 1"),
         (wg.ShapeFault(["main"], "lengths", "types", "so many"), "main: types breaks lengths: so many"),
         (wg.Unreadable("expected str, found 1"), "expected str, found 1"),
     ]
@@ -130,12 +135,44 @@ class Documents(unittest.TestCase):
             self.assertEqual(wg.accepted(reply), reply.reply if isinstance(reply, wg.Merge) else reply)
 
     def test_a_refusal_is_raised(self):
-        error = {"number": 26, "cause": "world-selection", "text": "no", "span": [1, 2]}
-        reply = wg.from_json(wg.Reply, {"refused": {"error": error, "rendered": "no at 1"}})
+        place = {"path": "a.wit", "line": 1, "column": 3}
+        way = [{"from": "a:b", "to": "c:d"}, {"from": "c:d", "to": "a:b", "place": {"path": "c.wit", "line": 2, "column": 5}}]
+        refused = {
+            "error": {"number": 6, "cause": "package-cycle", "text": "no", "span": [1, 2]},
+            "fields": {"package": "a:b"},
+            "places": [place],
+            "way": way,
+            "rendered": "no at 1",
+        }
+        reply = wg.from_json(wg.Reply, {"refused": refused})
         with self.assertRaises(wg.Refusal) as raised:
             wg.accepted(reply)
-        self.assertEqual((str(raised.exception), raised.exception.number), ("no at 1", 26))
-        self.assertEqual(raised.exception.span, (1, 2))
+        self.assertEqual((str(raised.exception), vars(raised.exception)), ("no at 1", vars(a_refusal())))
+        self.assertEqual(str(raised.exception.places[0]), "a.wit:1:3")
+        self.assertEqual(wg.to_json(reply)["refused"]["way"], way)
+
+    def test_the_fields_of_each_error(self):
+        gate = {"unstable": {"feature": "f"}}
+        expected = {
+            1: ({"requested": "a:b", "known": ["c:d"]}, wg.PackageNotFound("a:b", ["c:d"])),
+            2: ({"requested": "w", "package": "a:b"}, wg.WorldNotFound("w", "a:b")),
+            3: ({"requested": "i", "package": "a:b"}, wg.InterfaceNotFound("i", "a:b")),
+            4: ({"name": "a:b/i"}, wg.InvalidTransitiveDependency("a:b/i")),
+            5: ({"name": "a:b", "span1": [1, 2], "span2": None}, wg.DuplicatePackage("a:b", (1, 2), None)),
+            6: ({"package": "a:b"}, wg.PackageCycle("a:b")),
+            7: ({"item-type": "import", "name": "f"}, wg.ItemShadowing("import", "f")),
+            8: ({"from": None, "into": gate}, wg.StabilityMismatch(None, wg.Unstable("f"))),
+            9: ({"message": "no"}, wg.Semantic("no")),
+            26: ({"message": "no"}, wg.Semantic("no")),
+            27: ({}, wg.OffsetOverflow()),
+            28: ({}, wg.OutOfMemory()),
+        }
+        for number, (members, fields) in expected.items():
+            error = {"number": number, "cause": "other", "text": "no"}
+            value = {"refused": {"error": error, "fields": members, "places": [], "way": [], "rendered": "no"}}
+            reply = wg.from_json(wg.Reply, value)
+            self.assertEqual((reply.fields, reply.refusal.fields), (fields, fields))
+            self.assertEqual(json.loads(json.dumps(wg.to_json(reply)))["refused"]["fields"], members)
 
     def test_a_reply_of_another_kind(self):
         merged = wg.Merge([wg.Done()], wg.Merged([], [], [], []))

@@ -19,6 +19,8 @@ WRITERS = ["wit_json", "wit_json_commands"]
 STORED = "crates/witgraph_json/stdin", "crates/witgraph_json/stdout"
 # The definitions that read what a row calls by a word in capitals.
 THINGS = {"PACKAGE": "read_package", "WORLD": "read_world", "INTERFACE": "read_interface"}
+# The definitions of which each line has the members of an object.
+LINES = {"error_fields", "missing_fields"}
 # The members that some definitions always write for others.
 WRITTEN_BY = {"interface_member": ["interface"], "fault_members": ["clause", "place", "text"]}
 # The definitions, beside those of commands, of which the document has each word.
@@ -90,6 +92,8 @@ def shapes():
     for crate, name, body in definitions():
         read = read_shape(body)
         those = [read] if read else written_shapes(body) if crate in WRITERS else []
+        if name in LINES:
+            those = [dict.fromkeys(re.findall(r'\bmember \(codes "([^"]*)"\)', line), False) for line in body.splitlines()]
         found.setdefault(name, []).extend(those)
     return found
 

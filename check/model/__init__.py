@@ -6,7 +6,8 @@ that it makes one, unless `Rules` say that it doesn't.
 
 From below: `names`, `data`, `labels`, `causes` and `walks` are what the others are written in; `reader` reads the
 lines of packages; `elaboration`, `including` and `adding` say what becomes of them; `graph` has what is done to one
-graph, `merging` and `tracks` what merges, with `mismatches` and `finishing`; `scripts` answers commands.
+graph, `merging` and `tracks` what merges, with `mismatches` and `finishing`; `scripts` answers commands, and `refusals` has
+what JSON tells of a refusal.
 """
 from .labels import groups_of
 from .names import NotUnderstood

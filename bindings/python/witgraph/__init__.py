@@ -13,12 +13,13 @@ build of the program `witgraph_json` for that. `execute` and `explain` run scrip
 
 Calls in several threads don't disturb each other. Needs Python 3.10 and nothing else.
 """
-from . import calls, commands, data, documents, errors, replies, resolve
+from . import calls, commands, data, documents, errors, kinds, replies, resolve
 from .calls import *
 from .commands import *
 from .data import *
 from .documents import *
 from .errors import *
+from .kinds import *
 from .replies import *
 from .resolve import *
 
@@ -30,5 +31,6 @@ __all__ += commands.__all__
 __all__ += data.__all__
 __all__ += documents.__all__
 __all__ += errors.__all__
+__all__ += kinds.__all__
 __all__ += replies.__all__
 __all__ += resolve.__all__

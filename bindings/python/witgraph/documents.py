@@ -14,16 +14,18 @@ from .data import (
     TypeDef, TypeId, TypeItem, Variant, World,
 )  # fmt: skip
 from .errors import Fault, Unreadable
-from .replies import Reply, Run
+from .kinds import KINDS, Semantic
+from .replies import Refused, Reply, Run
 
 __all__ = ["document_of", "from_json", "graph_of", "run_of", "to_json", "whole_of"]
 
 # What is left out where it is None; all else is written as null.
-OPTIONAL = {"docs", "stability", "span", "external_id", "result", "package", "world", "out", "keys", "deprecated"}
+OPTIONAL = {"docs", "stability", "span", "external_id", "result", "package", "world", "out", "keys", "deprecated", "place"}
 
 
 def member_name(cls: type, name: str) -> str:
-    return "as" if cls is IncludeName and name == "new" else name.replace("_", "-")
+    """The name of a field in JSON. A word of Python's own has a line behind it as a field."""
+    return "as" if cls is IncludeName and name == "new" else name.rstrip("_").replace("_", "-")
 
 
 def to_json(value: Any) -> Any:
@@ -59,6 +61,13 @@ def object_of(value: Any) -> dict[str, Any]:
 @functools.cache
 def hints_of(cls: type) -> dict[str, Any]:
     return typing.get_type_hints(cls)
+
+
+def hint_of(cls: type, name: str, members: dict[str, Any]) -> Any:
+    """The type of a member; which fields a refused error has its number says."""
+    if cls is Refused and name == "fields":
+        return KINDS.get(members["error"]["number"], Semantic)
+    return hints_of(cls)[name]
 
 
 def from_json(hint: Any, value: Any) -> Any:
@@ -103,7 +112,7 @@ def read_union(choices: tuple[Any, ...], value: Any) -> Any:
     for it in choices:
         if not hasattr(it, "tag") and it is not type(None):
             plain = typing.get_origin(it) or getattr(it, "__supertype__", it)
-            if isinstance(value, list if plain is tuple else plain):
+            if isinstance(value, list if plain is tuple else dict if is_dataclass(plain) else plain):
                 return from_json(it, value)
     raise Unreadable(f"expected another form, found {json.dumps(value)[:60]}")
 
@@ -129,7 +138,7 @@ def read_object(cls: Any, members: dict[str, Any]) -> Any:
         name = member_name(cls, it.name)
         if name in members:
             part = members[name]
-            parts[it.name] = part["contents"] if it.name == "docs" else from_json(hints_of(cls)[it.name], part)
+            parts[it.name] = part["contents"] if it.name == "docs" else from_json(hint_of(cls, it.name, members), part)
         elif it.default is MISSING and it.default_factory is MISSING:
             raise Unreadable(f"{cls.__name__} lacks `{name}`")
     return cls(**parts)

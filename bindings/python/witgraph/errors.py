@@ -3,7 +3,8 @@ from __future__ import annotations
 
 from typing import Optional, Union
 
-from .data import Span
+from .data import Place, Span
+from .kinds import ErrorKind, WayStep
 
 __all__ = ["Error", "Fault", "NotUnderstood", "ProgramFailed", "Refusal", "ShapeFault", "Unreadable"]
 
@@ -59,12 +60,23 @@ class ProgramFailed(Error):
 
 
 class Refusal(Error):
-    """Why a command is refused: `number`, `cause`, `text`, `span`, and `rendered`, with the line where it is known, the way,
-    the command and the number."""
+    """Why a command is refused: `number`, `cause`, `text` and `span`; what the error names, as `fields`; its `places` in files;
+    the `way` from what it names; and `rendered`, which shows all that with the lines and the command."""
 
-    def __init__(self, number: int, cause: str, text: str, span: Optional[Span], rendered: str):
-        super().__init__(number, cause, text, span, rendered)
-        self.number, self.cause, self.text, self.span, self.rendered = number, cause, text, span, rendered
+    def __init__(
+        self,
+        number: int,
+        cause: str,
+        text: str,
+        span: Optional[Span],
+        fields: ErrorKind,
+        places: list[Place],
+        way: list[WayStep],
+        rendered: str,
+    ):
+        super().__init__(number, cause, text, span, fields, places, way, rendered)
+        self.number, self.cause, self.text, self.span = number, cause, text, span
+        self.fields, self.places, self.way, self.rendered = fields, places, way, rendered
 
     def __str__(self) -> str:
         return self.rendered

@@ -4,8 +4,9 @@ from __future__ import annotations
 from dataclasses import dataclass
 from typing import Any, Optional, TypeVar, Union, overload
 
-from .data import InterfaceId, PackageId, Graph, Span, Tagged, TypeId, WorldId
+from .data import InterfaceId, PackageId, Graph, Place, Span, Tagged, TypeId, WorldId
 from .errors import Refusal, ShapeFault
+from .kinds import ErrorKind, WayStep
 
 __all__ = [
     "CoreExport", "CoreImport", "CoreNames", "Done", "Interfaces", "Merge", "Merged", "NotFound", "NotShaped", "NoWorld",
@@ -74,12 +75,15 @@ class Refused(Tagged, tag="refused"):
     """Nothing but the list of files has changed."""
 
     error: RefusedError
+    fields: ErrorKind
+    places: list[Place]
+    way: list[WayStep]
     rendered: str
 
     @property
     def refusal(self) -> Refusal:
         it = self.error
-        return Refusal(it.number, it.cause, it.text, it.span, self.rendered)
+        return Refusal(it.number, it.cause, it.text, it.span, self.fields, self.places, self.way, self.rendered)
 
 
 @dataclass

@@ -2,11 +2,17 @@
 ghost use Rattle.examples_json.specs.runs.Answers.{ExamplesOfAnswers, ExamplesOfDocuments};
 ghost use Rattle.examples_json.specs.runs.Changes.{ExamplesOfChanges};
 ghost use Rattle.examples_json.specs.runs.Questions.{ExamplesOfCoreNames, ExamplesOfQuestions, ExamplesOfRefusedQuestions};
+ghost use Rattle.examples_json.specs.runs.Refusals.{ExamplesOfRefusedData};
 ghost use Rattle.examples_json.specs.runs.Ways.{ExamplesOfWays};
 
 /// Each sort of answer.
 pub fn examples_of_answers()
     ensures { ExamplesOfAnswers }
+{}
+
+/// Refusals as data.
+pub fn examples_of_refused_data()
+    ensures { ExamplesOfRefusedData }
 {}
 
 /// The documents that come out.

@@ -1,4 +1,5 @@
 mod EachAnswered
+mod FilePlaces
 mod FirstKnown
 mod GoesOn
 mod Named

@@ -1,21 +1,15 @@
 -- Answers to commands as JSON.
 use Rattle.std.specs.Prelude.{List, ◌++◌, codes}
 use Rattle.json.specs.Json.{Json}
-use Rattle.wit_json.specs.Refusals.{json_of_refusal}
 use Rattle.wit_json.specs.Values.{json_of_number, json_of_text, list_of, member, object, tagged}
 use Rattle.wit_json_commands.specs.CoreNamesJson.{json_of_core_names}
+use Rattle.wit_json_commands.specs.RefusalJson.{json_of_refused}
 use Rattle.wit_json_commands.specs.Remaps.{json_of_remap}
 use Rattle.wit_json_commands.specs.UnshapedJson.{json_of_unshaped}
 use Rattle.wit_json_commands.specs.declared.replies.answers.Answer.{Answer}
 use Rattle.wit_json_commands.specs.declared.replies.answers.Answer.TheVariants as answer
-use Rattle.wit_json_commands.specs.declared.replies.answers.Refusal.{Refusal}
 use Rattle.wit_json_commands.specs.declared.replies.answers.Response.{Response}
 use Rattle.wit_json_commands.specs.declared.replies.answers.Response.TheVariants as response
-
-abbrev pub json_of_refused : Refusal → Json
-json_of_refused refusal =
-    object (member (codes "error") (json_of_refusal refusal.error)
-    ++ member (codes "rendered") (json_of_text refusal.rendered))
 
 -- the answer to a change or a question: a word, or what is answered under a word
 abbrev pub json_of_answer : Answer → Json

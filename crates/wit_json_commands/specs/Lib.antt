@@ -4,10 +4,12 @@ pub mod Changes
 pub mod CoreNames
 pub mod CoreNamesJson
 pub mod Documents
+pub mod FilePlaces
 pub mod Orders
 pub mod Output
 pub mod Places
 pub mod Questions
+pub mod RefusalJson
 pub mod Refusals
 pub mod Remaps
 pub mod Runs

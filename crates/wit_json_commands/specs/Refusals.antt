@@ -1,5 +1,5 @@
 -- Refusals as they are told.
-use Rattle.std.specs.Prelude.{ℕ, List, [], ◌∷◌, ◌++◌, codes, decimal, flat_map}
+use Rattle.std.specs.Prelude.{ℕ, List, [], ◌∷◌, ◌++◌, codes, decimal, filter_map, flat_map, map}
 use Rattle.std.specs.Option.{option_map_or}
 use Rattle.wit_graph_data.specs.Error.{error_number, error_span}
 use Rattle.wit_graph_data.specs.ErrorText.{kind_text}
@@ -12,19 +12,29 @@ use Rattle.wit_sources.specs.Span.{OptionalSpan}
 use Rattle.wit_sources.specs.declared.source_map.SourceFile.{SourceFile}
 use Rattle.wit_ways.specs.Ways.{way_names}
 use Rattle.wit_ways.specs.declared.arrow.Arrow.{Arrow}
+use Rattle.wit_json_commands.specs.FilePlaces.{file_place}
 use Rattle.wit_json_commands.specs.Places.{first_known, package_span}
 use Rattle.wit_json_commands.specs.declared.replies.answers.Answer.{Answer}
 use Rattle.wit_json_commands.specs.declared.replies.answers.Answer.TheVariants as answer
+use Rattle.wit_json_commands.specs.declared.replies.refusals.WayStep.{WayStep}
+
+-- ---- places
+
+-- where an error is; of a package that is defined twice both places, the other one by the graph where the error has none
+abbrev pub error_spans : Graph → ResolveErrorKind → List OptionalSpan
+error_spans g (DuplicatePackage name span1 span2) =
+    span1 ∷ first_known (span2 ∷ package_span g name ∷ []) ∷ []
+error_spans g kind = error_span kind ∷ []
+
+-- the step of a way that an arrow is, with its place
+abbrev pub way_step : List SourceFile → Arrow → WayStep
+way_step files a = record { from = a.from; to = a.to; place = file_place files a.span }
+
+-- ---- texts
 
 -- where a span begins, on lines of their own; nothing where it is unknown or in no file
 abbrev pub place_lines : List SourceFile → OptionalSpan → List ℕ
 place_lines files span = option_map_or (λ shown. codes "\n" ++ shown) (shown_span files span) []
-
--- where an error is; of a package that is defined twice both places, the other one by the graph where the error has none
-abbrev pub lines_of_places : Graph → List SourceFile → ResolveErrorKind → List ℕ
-lines_of_places g files (DuplicatePackage name span1 span2) =
-    place_lines files span1 ++ place_lines files (first_known (span2 ∷ package_span g name ∷ []))
-lines_of_places g files kind = place_lines files (error_span kind)
 
 -- the line of a step of a way
 abbrev pub arrow_text : List SourceFile → Arrow → List ℕ
@@ -42,14 +52,27 @@ asked_text asked number =
     codes "\n      = "
     ++ (asked ++ (codes "\n      = " ++ (decimal number ++ codes " in docs/REFUSALS.md")))
 
--- an error of a graph with its lines in these files, its way, and what was asked
+-- an error with the lines in which some spans begin, its way, and what was asked
+abbrev pub text_of_error : List SourceFile → List OptionalSpan → List ℕ → List Arrow
+    → ResolveErrorKind → List ℕ
+text_of_error files spans asked way error =
+    kind_text error
+    ++ (flat_map (place_lines files) spans
+    ++ (way_lines files way ++ asked_text asked (error_number error)))
+
+-- the same of an error of a graph, with its lines in these files
 abbrev pub rendered : Graph → Sources → List ℕ → List Arrow → ResolveErrorKind → List ℕ
 rendered g files asked way error =
-    kind_text error
-    ++ (lines_of_places g files.files error
-    ++ (way_lines files.files way ++ asked_text asked (error_number error)))
+    text_of_error files.files (error_spans g error) asked way error
 
--- the refusal of what was asked of a graph, told by these files
+-- ---- refusals
+
+-- the refusal of what was asked of a graph, told by these files: its places and its way are those of its text
 abbrev pub refused : Graph → Sources → List ℕ → List Arrow → ResolveErrorKind → Answer
 refused g files asked way error =
-    answer.Refused (record { error = error; rendered = rendered g files asked way error })
+    answer.Refused (record {
+      error = error;
+      places = filter_map (file_place files.files) (error_spans g error);
+      way = map (way_step files.files) way;
+      rendered = rendered g files asked way error;
+    })

@@ -14,7 +14,9 @@ mod runs;
 pub use crate::commands::{
     Document, FunctionPlace, FunctionSite, Mangling, Order, Question, Request,
 };
-pub use crate::replies::{Answer, CoreExport, CoreImport, CoreNames, Refusal, Response, Unshaped};
+pub use crate::replies::{
+    Answer, CoreExport, CoreImport, CoreNames, FilePlace, Refusal, Response, Unshaped, WayStep,
+};
 pub use crate::runs::{execute, fault_text, no_valid_graph, respond, responses_to};
 pub use wit_commands::Change;
 pub use wit_streams::{Watched, exit_status};

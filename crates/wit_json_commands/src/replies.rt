@@ -3,13 +3,17 @@
 mod answers;
 mod core_names;
 mod documents;
+mod error_fields;
+mod file_places;
 mod places;
 mod refusals;
 mod remaps;
+mod rendered;
 mod unshaped;
 
 pub use answers::{Answer, Refusal, Response};
 pub use core_names::{CoreExport, CoreImport, CoreNames};
 pub use documents::{fault_to_json, output_to_json};
-pub use refusals::refused;
+pub use file_places::FilePlace;
+pub use refusals::{WayStep, refused};
 pub use unshaped::Unshaped;

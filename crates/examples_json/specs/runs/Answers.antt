@@ -103,9 +103,15 @@ pub record ExamplesOfAnswers : Type 0 where
       ≢ codes "{\"merged\":{\"types\":[4],\"interfaces\":[2],\"worlds\":[],\"packages\":[1,0]}}"
   -- a refusal, with its line
   pub refused : answer_text
-      (answer.Refused (record { error = kind.OutOfMemory; rendered = codes "out of memory" }))
+      (answer.Refused (record {
+        error = kind.OutOfMemory;
+        places = [];
+        way = [];
+        rendered = codes "out of memory";
+      }))
       ≡ codes "{\"refused\":{\"error\":{\"number\":28,\"cause\":\"out-of-memory\","
-      ++ codes "\"text\":\"out of memory\"},\"rendered\":\"out of memory\"}}"
+      ++ codes "\"text\":\"out of memory\"},\"fields\":{},\"places\":[],\"way\":[],"
+      ++ codes "\"rendered\":\"out of memory\"}}"
   -- a refusal as it is told: its text, what was asked, and where more is said of its number
   pub told : rendered new_state.graph new_state.source_map (codes "merge") [] kind.OffsetOverflow
       ≡ codes

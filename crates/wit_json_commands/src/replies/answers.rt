@@ -1,9 +1,13 @@
 //! Answers to commands.
 ghost use Rattle.std.specs.Prelude.{◌≡◌, ◌++◌, OnOk};
 ghost use Rattle.json.specs.Tree.{json_tokens};
-ghost use Rattle.wit_json_commands.specs.Answers.{json_of_answer, json_of_merge, json_of_refused, json_of_response};
+ghost use Rattle.wit_json_commands.specs.Answers.{json_of_answer, json_of_merge, json_of_response};
+ghost use Rattle.wit_json_commands.specs.RefusalJson.{json_of_refused};
 
 use super::core_names::CoreNames;
+use super::error_fields::write_fields;
+use super::file_places::FilePlace;
+use super::refusals::WayStep;
 use super::remaps::write_remap;
 use super::unshaped::Unshaped;
 use std::alloc::AllocError;
@@ -12,10 +16,15 @@ use wit_graph_data::ResolveError;
 use wit_json::{JsonText, WriteJson};
 use wit_remap::Remap;
 
-/// What is refused, and how it is told: with its lines, and with what was asked.
+/// What is refused, and how it is told.
 #[derive(Drop)]
 pub struct Refusal {
     pub error: ResolveError,
+    /// Where the error is, those of its places that are in files. Of a package that is defined twice there are two.
+    pub places: Items<FilePlace>,
+    /// How what the error names leads back to itself, or past what isn't exported to what is; empty of other errors.
+    pub way: Items<WayStep>,
+    /// The text of the error with the lines of its places and of its way, and with what was asked.
     pub rendered: Text,
 }
 
@@ -62,6 +71,9 @@ impl WriteJson for Refusal {
     fn write_json(&self, out: &mut JsonText) -> Result<(), AllocError> {
         out.begin_object()?;
         out.member("error", &self.error)?;
+        write_fields(out, self.error.kind())?;
+        out.member("places", &self.places)?;
+        out.member("way", &self.way)?;
         out.member("rendered", &self.rendered)?;
         out.end_object()
     }

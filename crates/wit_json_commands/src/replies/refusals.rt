@@ -1,17 +1,29 @@
-//! Refusals as they are told.
-ghost use Rattle.std.specs.Prelude.{◌≡◌, IfOk, string_bytes};
-ghost use Rattle.std.specs.List.{flat_map};
-ghost use Rattle.wit_json_commands.specs.Refusals.{arrow_text, place_lines, lines_of_places, refused, way_lines};
+//! Refusals as they are told: as data, and as a text.
+ghost use Rattle.std.specs.Prelude.{◌≡◌, IfOk, filter_map, map};
+ghost use Rattle.wit_json_commands.specs.FilePlaces.{file_place};
+ghost use Rattle.wit_json_commands.specs.RefusalJson.{json_of_way_step};
+ghost use Rattle.wit_json_commands.specs.Refusals.{error_spans, refused, way_step};
 
 use super::answers::{Answer, Refusal};
+use super::file_places::{FilePlace, file_place};
 use super::places::package_span;
+use super::rendered::text_of_error;
 use std::alloc::{AllocError, Global};
-use wit_data::{SourceMap, Span, Text};
+use wit_data::{Items, SourceMap, Span, Text, TryClone};
 use wit_graph_data::{Graph, ResolveError, ResolveErrorKind};
-use wit_ways::{Arrow, way_names};
+use wit_json::{JsonText, WriteJson};
+use wit_ways::Arrow;
 
-/// The refusal of what was asked of a graph: the error with its lines in these files, its way, what was asked, and which
-/// document says more of its number. The only error is want of memory.
+/// A step of the way of a refusal: what leads to what, and where that stands, where a line of a file says it.
+#[derive(Drop)]
+pub struct WayStep {
+    pub from: Text,
+    pub to: Text,
+    pub place: Option<FilePlace>,
+}
+
+/// The refusal of what was asked of a graph: the error, its places and its way in these files, and the text that shows
+/// them with what was asked and which document says more of the number. The only error is want of memory.
 pub fn refused(
     alloc: Global,
     graph: &Graph,
@@ -22,24 +34,25 @@ pub fn refused(
 ) -> Result<Answer, AllocError>
     ensures { IfOk result (λ answer. answer ≡ refused graph.now files.now asked.now way.now error) }
 {
-    let places = places_text(alloc, graph, files, error.kind())?;
-    let shown = way_text(alloc, files, way)?;
-    let number = error.number();
-    let rendered = Text::from_string(format!(in alloc;
-        "{error}{places}{shown}\n      = {asked}\n      = {number} in docs/REFUSALS.md"
-    )?);
-    Ok(Answer::Refused(Refusal { error, rendered }))
+    let spans = error_spans(alloc, graph, error.kind())?;
+    let rendered = text_of_error(alloc, files, &spans, asked, way, &error)?;
+    let places = file_places(alloc, files, &spans)?;
+    let way = way_steps(alloc, files, way)?;
+    Ok(Answer::Refused(Refusal {
+        error,
+        places,
+        way,
+        rendered,
+    }))
 }
 
-/// Where an error is, with the line; of a package that is defined twice both places.
-fn places_text(
+/// Where an error is; of a package that is defined twice both places, the other one by the graph where the error has none.
+fn error_spans(
     alloc: Global,
     graph: &Graph,
-    files: &SourceMap,
     kind: &ResolveErrorKind,
-) -> Result<String, AllocError>
-    ensures { IfOk result
-        (λ text. string_bytes text ≡ lines_of_places graph.now files.now.files kind.now) }
+) -> Result<Vec<Span>, AllocError>
+    ensures { IfOk result (λ spans. spans.items ≡ error_spans graph.now kind.now) }
 {
     match kind {
         ResolveErrorKind::DuplicatePackage { name, span1, span2 } => {
@@ -48,45 +61,59 @@ fn places_text(
             } else {
                 package_span(graph, name)
             };
-            let first = place_text(alloc, files, *span1)?;
-            let second = place_text(alloc, files, other)?;
-            format!(in alloc; "{first}{second}")
+            Ok(vec![in alloc; *span1, other]?)
         }
-        kind => place_text(alloc, files, kind.span()),
+        kind => Ok(vec![in alloc; kind.span()]?),
     }
 }
 
-/// Where a span begins, on lines of their own; nothing where it is unknown or in no file.
-fn place_text(alloc: Global, files: &SourceMap, span: Span) -> Result<String, AllocError>
-    ensures { IfOk result (λ text. string_bytes text ≡ place_lines files.now.files span) }
+/// The places at which spans begin, without those that are in no file.
+fn file_places(
+    alloc: Global,
+    files: &SourceMap,
+    spans: &[Span],
+) -> Result<Items<FilePlace>, AllocError>
+    ensures { IfOk result (λ places. places ≡ filter_map (file_place files.now.files) spans.now) }
 {
-    match files.show_span(alloc, span)? {
-        Some(shown) => format!(in alloc; "\n{shown}"),
-        None => Ok(String::new(alloc)),
+    let mut places = Items::new(alloc);
+    for span in spans {
+        if let Some(place) = file_place(alloc, files, *span)? {
+            places.push(place)?;
+        }
     }
+    Ok(places)
 }
 
-/// `way: A -> B -> .. -> C` on a line of its own and the line of each step, or nothing where there is no way.
-fn way_text(alloc: Global, files: &SourceMap, way: &[Arrow]) -> Result<String, AllocError>
-    ensures { IfOk result (λ text. string_bytes text ≡ way_lines files.now.files way.now) }
+/// The steps of a way with their places.
+fn way_steps(alloc: Global, files: &SourceMap, way: &[Arrow]) -> Result<Items<WayStep>, AllocError>
+    ensures { IfOk result (λ steps. steps ≡ map (way_step files.now.files) way.now) }
 {
-    if way.is_empty() {
-        return Ok(String::new(alloc));
-    }
-    let names = way_names(alloc, way)?;
-    let lines = lines_text(alloc, files, way)?;
-    format!(in alloc; "\n      = way: {names}{lines}")
-}
-
-/// The lines of the steps of a way.
-fn lines_text(alloc: Global, files: &SourceMap, way: &[Arrow]) -> Result<String, AllocError>
-    ensures { IfOk result
-        (λ text. string_bytes text ≡ flat_map (arrow_text files.now.files) way.now) }
-{
-    let mut text = String::new(alloc);
+    let mut steps = Items::new(alloc);
     for arrow in way {
-        let line = place_text(alloc, files, arrow.span)?;
-        text.push_str(&line)?;
+        let step = way_step(alloc, files, arrow)?;
+        steps.push(step)?;
     }
-    Ok(text)
+    Ok(steps)
+}
+
+/// A step of a way with its place.
+fn way_step(alloc: Global, files: &SourceMap, arrow: &Arrow) -> Result<WayStep, AllocError>
+    ensures { IfOk result (λ step. step ≡ way_step files.now.files arrow.now) }
+{
+    let place = file_place(alloc, files, arrow.span)?;
+    let from = arrow.from.try_clone()?;
+    let to = arrow.to.try_clone()?;
+    Ok(WayStep { from, to, place })
+}
+
+impl WriteJson for WayStep {
+    ghost json = { json_of_way_step };
+
+    fn write_json(&self, out: &mut JsonText) -> Result<(), AllocError> {
+        out.begin_object()?;
+        out.member("from", &self.from)?;
+        out.member("to", &self.to)?;
+        out.optional("place", &self.place)?;
+        out.end_object()
+    }
 }

@@ -1,7 +1,7 @@
 use Rattle.std.proofs.Common.{◌≡◌, take, string_bytes}
 use Rattle.std.specs.List.{flat_map}
 use Rattle.wit_json_commands.specs.Refusals.{arrow_text}
-use Rattle.wit_json_commands.proofs.replies.refusals.lines_text.Given as goal
+use Rattle.wit_json_commands.proofs.replies.rendered.lines_text.Given as goal
 
 -- the lines of the first steps
 abbrev pub invariant-loop-arrow : goal.invariant-loop-arrow

@@ -1,0 +1,38 @@
+use Rattle.std.proofs.Common.{refl}
+use Rattle.std.specs.Fmt.{digits}
+use Rattle.json.specs.Print.{escape_byte, print_from}
+use Rattle.wit_values.specs.facts.Lists.{differ}
+use Rattle.examples_json.proofs.runs.examples_of_refused_data.Goals as goal
+
+pub returns : goal.returns
+unfolding digits escape_byte print_from
+returns c = record {
+  known = refl;
+  not_sorted = differ _ _ refl;
+  world = refl;
+  no_span = differ _ _ refl;
+  interface = refl;
+  conflict = refl;
+  twice = refl;
+  cycle = refl;
+  shadowing = refl;
+  gates = refl;
+  not_turned = differ _ _ refl;
+  message = refl;
+  no_field = refl;
+  there = refl;
+  in_the_other = refl;
+  not_from_zero = λ same. cc;
+  at_the_end = refl;
+  past_the_end = refl;
+  nowhere = refl;
+  both = refl;
+  one = refl;
+  none = refl;
+  step = refl;
+  unplaced = refl;
+  place_text = refl;
+  step_text = refl;
+  no_null = differ _ _ refl;
+  whole = refl;
+}
