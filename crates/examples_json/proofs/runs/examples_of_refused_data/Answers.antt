@@ -5,7 +5,7 @@ use Rattle.wit_values.specs.facts.Lists.{differ}
 use Rattle.wit_json_commands.specs.declared.replies.file_places.FilePlace.{FilePlace}
 use Rattle.examples_json.proofs.runs.examples_of_refused_data.Goals as goal
 
-line_of : Option FilePlace → ℕ
+abbrev line_of : Option FilePlace → ℕ
 line_of None = 0
 line_of (Some place) = place.line
 
