@@ -1,8 +1,16 @@
-use Rattle.std.proofs.Common.{refl}
+use Rattle.std.proofs.Common.{◌≡◌, ◌<◌, ℕ, Option, None, Some, ap, arith, refl}
 use Rattle.std.specs.Fmt.{digits}
 use Rattle.json.specs.Print.{escape_byte, print_from}
 use Rattle.wit_values.specs.facts.Lists.{differ}
+use Rattle.wit_json_commands.specs.declared.replies.file_places.FilePlace.{FilePlace}
 use Rattle.examples_json.proofs.runs.examples_of_refused_data.Goals as goal
+
+abbrev line_of : Option FilePlace → ℕ
+line_of None = 0
+line_of (Some place) = place.line
+
+apart : (a b : ℕ) → b < a → a ≡ b → ⊥
+apart a b more same = omega arith
 
 pub returns : goal.returns
 unfolding digits escape_byte print_from
@@ -22,7 +30,7 @@ returns c = record {
   no_field = refl;
   there = refl;
   in_the_other = refl;
-  not_from_zero = λ same. cc;
+  not_from_zero = λ same. apart 1 0 (omega arith) (ap line_of same);
   at_the_end = refl;
   past_the_end = refl;
   nowhere = refl;
