@@ -33,6 +33,7 @@ ROOT = """//! The modules that `tools/plain-rust` made, one for each crate of th
     clippy::manual_filter,
     clippy::manual_find,
     clippy::manual_map,
+    clippy::manual_ok_err,
     clippy::manual_range_contains,
     clippy::manual_unwrap_or_default,
     clippy::match_like_matches_macro,

@@ -6,6 +6,7 @@ use crate::made::wit_data::{
     WorldKey,
 };
 use crate::made::wit_graph_data::{Features, Graph};
+use crate::made::witgraph_calls::Session;
 use crate::values::Items;
 use indexmap::IndexMap;
 use semver::Version;
@@ -25,6 +26,12 @@ impl Default for Graph {
 impl Default for Features {
     fn default() -> Features {
         Features::new()
+    }
+}
+
+impl Default for Session {
+    fn default() -> Session {
+        Session::new()
     }
 }
 
