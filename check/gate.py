@@ -49,6 +49,7 @@ BEFORE = {
     "tests-of-names": "python3 check/test_colliding_names.py",
     "tests-of-plain-rust": "python3 tools/test_plain_rust.py",
     "tests": "tools/plain-tests",
+    "wit-print": "python3 check/wit_print.py wasi stored texts --first {seed} --many 40",
     "fuzz": "python3 check/fuzz.py --seed {seed}",
 }
 # What the proved programs are asked, and the library for C.

@@ -21,9 +21,10 @@ import sys
 import compare
 import model
 from model import data, labels, reader, refusals
-from model.scripts import Commands, words_of
+from model.scripts import Commands, Rules, Session, words_of
 
 PRINTS = {"print"}
+ON_WORLDS = {"importize", "exportize", "semver"}
 METHODS = {"[method]": "method", "[static]": "static", "[constructor]": "constructor"}
 ACCESSORS = {"[get]": "getter", "[set]": "setter"}
 
@@ -315,9 +316,11 @@ def reply_lines(graph, command, reply):
     if isinstance(reply, dict) and "refused" in reply:
         return refused_lines(command, reply)
     match reply:
-        case "done":
-            return [] if word in ("add-feature", "set-all-features", "set-track-rule") else ["done"]
-        case "no-world":
+        case "done" if word not in ON_WORLDS:
+            return []
+        case {"done": _} if word in ON_WORLDS:
+            return ["done"]
+        case "no-world" | "no-package":
             return ["no world"]
         case "not-found":
             return ["no package"]
@@ -342,6 +345,33 @@ def misplaced(output):
             place = refusals.place_at(output["resolve"]["sources"], refused["error"]["span"])
             if place != refused["places"][0]:
                 yield f"{refused['places'][0]} is {place}"
+
+
+def in_order(commands, replies):
+    """The replies in the order in which the commands are carried out."""
+    for command, reply in zip(commands, replies):
+        if "merge" in command:
+            yield from reply["merge"]["replies"]
+            reply = reply["merge"]["reply"]
+        yield reply
+
+
+def wrong_outcomes(document, output):
+    """What commands that change a world answer otherwise than the model tells."""
+    session, graph = Session(Rules()), output["resolve"]["graph"]
+    replies = in_order(document.commands, output["replies"])
+    for words, read in document.read_commands:
+        reply = None if words[0] == "other" else next(replies)
+        if words[0] in ON_WORLDS:
+            wanted = session.outcome(words)
+            told = reply.get("done") if isinstance(reply, dict) else reply
+            if told and (told.get("unmatched", []) if isinstance(told, dict) else told) != wanted:
+                yield f"{words} answers {reply}, expected {wanted}"
+            if isinstance(told, dict) and len(session.graphs) == 1:
+                home = graph["worlds"][told["world"]]["package"]
+                if graph["packages"][home]["name"] != str(words[1]):
+                    yield f"{words} answers {reply}, a world of another package"
+        session.answer(words, read)
 
 
 def run(program, text):
@@ -371,18 +401,18 @@ def with_former_names(ours, asked):
 def differs(program, name, script):
     """What is answered where that isn't as the model says, else None."""
     lines = compared_lines(script)
-    document = document_of("\n".join(lines))
+    document = read_document("\n".join(lines))
     if document is None:
         return None
-    status, printed = run(program, json.dumps(document))
+    status, printed = run(program, json.dumps({"commands": document.commands}))
     try:
         output = json.loads(printed)
         if json.dumps(output, separators=(",", ":"), ensure_ascii=False) != printed:
             return f"{name}: not compact"
-        if wrong := list(misplaced(output)):
+        if wrong := [*misplaced(output), *wrong_outcomes(document, output)]:
             return f"{name}: {wrong}"
         graph = output["resolve"]["graph"]
-        ours = [line for it in zip(document["commands"], output["replies"]) for line in reply_lines(graph, *it)]
+        ours = [line for it in zip(document.commands, output["replies"]) for line in reply_lines(graph, *it)]
     except (ValueError, KeyError) as fault:
         return f"{name}: {fault!r} {status} {printed[:500]}"
     worlds = [it for it in graph["worlds"] if it["package"] is not None]

@@ -5,10 +5,12 @@
 
 The programs are those that `rt ci` leaves. What docs/SCRIPT.md, docs/JSON.md and docs/PICTURES.md say of each: an input that
 isn't UTF-8, a read or a write that fails, a script that isn't understood, arguments. Ends with status 1 where one does
-otherwise.
+otherwise. With little memory `witgraph_json` refuses a question whose answer is long, and answers the others.
 """
 import argparse
+import json
 import os
+import resource
 import shutil
 import subprocess
 import sys
@@ -82,6 +84,36 @@ def faults(name, program):
             yield f"{name} {words} of {given}: status {ended}, {written}, {told}; {status}, {expected} are expected"
 
 
+def doubled(depth):
+    """A document that asks which futures the values of a function hold, tuples nested so deep: two to the power of that."""
+    types = [{"name": "t0", "kind": {"future": "u8"}, "owner": {"interface": 0}}]
+    for it in range(depth):
+        types.append({"name": f"t{it + 1}", "kind": {"tuple": {"types": [it, it]}}, "owner": {"interface": 0}})
+    function = {"name": "f", "kind": "freestanding", "params": [{"name": "p", "type": depth}]}
+    names = {it["name"]: at for at, it in enumerate(types)}
+    interface = {"name": "i", "types": names, "functions": {"f": function}}
+    main = {"name": "a:b", "types": types, "interfaces": [interface], "worlds": [], "foreign-deps": {},
+            "foreign-dep-spans": [], "unknown-type-spans": [], "required-resources": []}
+    place = {"package": "a:b", "name": "i", "function": "f"}
+    commands = [{"push-groups": {"main": {"main": main, "nested": [], "sources": []}, "deps": []}},
+                {"futures-and-streams": {"interface": place}}, "package-order"]
+    return json.dumps({"commands": commands}).encode()
+
+
+def lost(program):
+    """Where a long answer takes others with it, whatever memory there is."""
+    for depth, sizes in ((22, range(20, 90, 5)), (40, [100])):
+        for size in sizes:
+            limit = size << 20
+            ended, written, told = ran(program, [], doubled(depth), True,
+                                       preexec_fn=lambda limit=limit: resource.setrlimit(resource.RLIMIT_AS, (limit, limit)))
+            replies = json.loads(written or b"{}").get("replies")
+            refused = replies and replies[1].get("refused", {}).get("error", {}).get("number") == 28
+            known = depth == 22 and replies and replies[1] == {"types": [0] * 2 ** depth}
+            if ended or told or not replies or replies[::2] != [{"pushed": 0}, {"packages": [0]}] or not (refused or known):
+                yield f"{depth} pairs in {size} MiB: status {ended}, {written[:200]}, {told}"
+
+
 def is_same(text, wanted):
     """Whether a text is what is wanted, or begins so where anything may come behind that."""
     return text.startswith(wanted.removesuffix(ANY)) if wanted.endswith(ANY) else text == wanted
@@ -100,6 +132,8 @@ def main():
             copy = shutil.copyfile(path, f"{folder}/{name}")
             os.chmod(copy, 0o755)
             wrong += faults(name, copy)
+            if name == "witgraph_json":
+                wrong += lost(copy)
     print("\n".join([*wrong, f"statuses: {sum(map(len, RUNS.values()))} runs, {len(wrong)} wrong"]))
     return 1 if wrong else 0
 

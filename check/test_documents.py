@@ -51,7 +51,7 @@ PLANTED = {
     "a field of a kind in REFUSALS": ("docs/REFUSALS.md", "`ItemShadowing { span, item_type, name }`", "`ItemShadowing { span, name }`"),
     "a link of the text of 24": ("docs/REFUSALS.md", "`different names or number of parts`", "`different names of parts`"),
     "a question in JSON": ("docs/JSON.md", '{"canonical-id": {"package"', '{"canonical-name": {"package"'),
-    "what may be left out in JSON": ("docs/JSON.md", '"world": TEXT, "out"?: TEXT}}` | `"done"', '"world": TEXT, "out": TEXT}}` | `"done"'),
+    "what may be left out in JSON": ("docs/JSON.md", '"world": TEXT, "out"?: TEXT}}` | `{"done"', '"world": TEXT, "out": TEXT}}` | `{"done"'),
     "a kind of a function in JSON": ("docs/JSON.md", '`"static-getter"`', '`"getter-static"`'),
     "the order of causes in JSON": ("docs/JSON.md", '`"label-clash"`, `"name-taken"`', '`"name-taken"`, `"label-clash"`'),
     "a fault in JSON": ("docs/JSON.md", '"expected":"a text"', '"expected":"some text"'),

@@ -1,13 +1,13 @@
 /* witgraph runs scripts or JSON documents that add WIT packages to a graph, change it and ask about it. The graph is the
  * call's own, or one that stays between calls.
  *
- * SCRIPT.md describes scripts and their answers, JSON.md the documents. They stand in docs, in a release in
- * share/doc/witgraph. With a release, compile your program with the flags that `pkg-config --cflags --libs witgraph` prints.
- * From the repository, link libwitgraph_c.a, which `rt lib` builds in crates/witgraph_c, and after it the toolchain's
- * liblibc_c.a: bindings/README.md has the commands. The library calls the malloc, realloc and free of your program.
+ * SCRIPT.md describes scripts and their answers, JSON.md the documents. Both are in docs, and in share/doc/witgraph of a
+ * release. With a release, compile your program with the flags that `pkg-config --cflags --libs witgraph` prints. From the
+ * repository, link libwitgraph_c.a, which `rt lib` builds in crates/witgraph_c, and after it the toolchain's liblibc_c.a:
+ * bindings/README.md has the commands. The library calls the malloc, realloc and free of your program.
  *
- * Only an open witgraph_graph stays between calls. All else that a call allocates it frees before it returns. Calls in
- * different threads don't disturb each other; of one witgraph_graph only one call may run at a time. No call opens a file,
+ * Only an open witgraph_graph stays between calls. A call frees all else that it allocates before it returns. Calls in
+ * different threads don't disturb each other, but only one call at a time may use a witgraph_graph. No call opens a file,
  * and none reads or writes anything but its arguments and the graph that is open in them.
  */
 #ifndef WITGRAPH_H
@@ -28,14 +28,14 @@ extern "C" {
 
 /* The status of a call. No other number is returned. */
 enum {
-  /* The call did what it says. A script or a document was understood and run; its answers, refusals among them, are what
-   * is written. */
+  /* The call did what it says. It understood and ran the script or the document, and gives the answers, refusals among
+   * them. */
   WITGRAPH_UNDERSTOOD = 0,
-  /* The script or the document wasn't understood and wasn't run. Of a script the output is one line, `line N: not
-   * understood`; witgraph_explain writes that line with the reason. Of a document it is the first fault. */
+  /* The call didn't understand the script or the document, and didn't run it. For a script the output is one line, `line
+   * N: not understood`; witgraph_explain writes that line with the reason. For a document it is the first fault. */
   WITGRAPH_NOT_UNDERSTOOD = 1,
-  /* The output has no room for what goes there: nothing is written, and *needed is its length. Call again with so many
-   * bytes. */
+  /* The output is too short: nothing is written, and *needed is the number of bytes that it needs. Call again with as
+   * many. */
   WITGRAPH_OUTPUT_TOO_SMALL = 2,
   /* The input isn't UTF-8: nothing is written, and *needed is 0. */
   WITGRAPH_INPUT_NOT_UTF8 = 3,
@@ -44,8 +44,8 @@ enum {
   WITGRAPH_NO_MEMORY = 4,
   /* No graph is open in the witgraph_graph: nothing is done or written, and *needed is 0. */
   WITGRAPH_NO_GRAPH = 5,
-  /* Only of witgraph_apply: memory was refused outside a command once commands were carried out. The graph is valid, and
-   * has what some of them did; there are no replies, and *needed is 0. */
+  /* Only witgraph_apply returns this: memory was refused outside a command once commands were carried out. The graph is
+   * valid, and has what some of them did; there are no replies, and *needed is 0. */
   WITGRAPH_CUT_SHORT = 6
 };
 
@@ -75,10 +75,10 @@ uint32_t witgraph_execute(const uint8_t *input, size_t length, uint8_t *output, 
  *           | ^-------
  *           = 11 in docs/REFUSALS.md
  *
- * `line 6` counts all lines of the script, from 1. In brackets stand the package, the line from its first line on, and
- * the column. Below the lines that the refusal names stands the line of the command, for `push` only if no other line is
+ * `line 6` counts all lines of the script, from 1. Brackets hold the package, the line from its first line on, and the
+ * column. First come the lines that the refusal names, then the line of the command, for `push` only if no other line is
  * known. For exports in conflict (4) and circles (6, 22, 23) a line ` = way: a:b/i -> a:b/j -> a:b/i` shows a known way,
- * with the known lines of its steps. docs/REFUSALS.md describes each number. A missing thing looks so:
+ * with the known lines of its steps. docs/REFUSALS.md describes each number. A missing thing looks like this:
  *
  *     no world
  *          --> line 4
@@ -86,7 +86,7 @@ uint32_t witgraph_execute(const uint8_t *input, size_t length, uint8_t *output, 
  *         4 | print p:q w
  *           | ^----------
  *
- * If there is neither, nothing is written, and *needed is 0.
+ * If the script has neither, nothing is written, and *needed is 0.
  *
  * If the script isn't understood, the output has the first bad line and why:
  *
@@ -102,7 +102,7 @@ uint32_t witgraph_explain(const uint8_t *input, size_t length, uint8_t *output, 
 
 /* Carries out the commands of a JSON document, on an empty graph or on the document's own, and writes the document that
  * the program witgraph_json writes. It has the replies and the graph, with which a later document may begin. If the
- * input isn't such a document (WITGRAPH_NOT_UNDERSTOOD), it has the first fault.
+ * input isn't such a document (WITGRAPH_NOT_UNDERSTOOD), the output has the first fault.
  *
  * Arguments and status are as for witgraph_execute, with the document in place of the script. */
 uint32_t witgraph_json(const uint8_t *input, size_t length, uint8_t *output, size_t capacity, size_t *needed);
@@ -111,10 +111,10 @@ uint32_t witgraph_json(const uint8_t *input, size_t length, uint8_t *output, siz
  *
  *     witgraph_graph graph = {0};
  *
- * which means that no graph is open. From then on only the calls below write to it. While a graph is open the struct isn't
- * copied and not let go: witgraph_close frees what the graph takes. Below, `graph` is not null, and aligned.
+ * which means that no graph is open. From then on only the calls below write to it. Don't copy the struct or let it go
+ * while a graph is open: witgraph_close frees what the graph takes. Below, `graph` is not null, and aligned.
  *
- * What witgraph_apply and witgraph_write tell stays with the graph until the next of these two calls; witgraph_reply copies
+ * witgraph_apply and witgraph_write leave a text with the graph, until the next of these two calls. witgraph_reply copies
  * it. So no command is carried out twice because an output was too small. */
 typedef struct witgraph_graph {
   void *session;
@@ -126,27 +126,27 @@ typedef struct witgraph_graph {
 uint32_t witgraph_open(witgraph_graph *graph);
 
 /* Carries out the commands of a JSON document on the graph. The document is as for witgraph_json. If it has a graph of its
- * own under "resolve", that takes the place of the open one before the first command; so a graph that is stored is opened by
- * witgraph_open and the document {"resolve": .., "commands": []}. What is told is {"replies": [..]}, or the first fault of a
- * document that isn't understood.
+ * own under "resolve", that takes the place of the open one before the first command. So witgraph_open and the document
+ * {"resolve": .., "commands": []} open a stored graph. The text is {"replies": [..]}, or the first fault of a document that
+ * isn't understood.
  *
  * input, length  the document, as for witgraph_json.
- * needed         gets the number of bytes that are told, which witgraph_reply then copies. Not null, aligned, and apart from
+ * needed         gets the number of bytes of the text, which witgraph_reply then copies. Not null, aligned, and apart from
  *                the other arguments.
  *
  * Status: WITGRAPH_UNDERSTOOD; WITGRAPH_CUT_SHORT; and, with the graph as before, WITGRAPH_NOT_UNDERSTOOD,
  * WITGRAPH_INPUT_NOT_UTF8, WITGRAPH_NO_MEMORY and WITGRAPH_NO_GRAPH. A refused command is a reply, and leaves the graph. */
 uint32_t witgraph_apply(witgraph_graph *graph, const uint8_t *input, size_t length, size_t *needed);
 
-/* Writes the whole graph, as JSON that a document may have under "resolve". The graph stays as it is.
+/* Leaves the whole graph as the text: JSON that a document may have under "resolve". The graph stays as it is.
  *
  * needed  as for witgraph_apply.
  *
  * Status: WITGRAPH_UNDERSTOOD, WITGRAPH_NO_MEMORY or WITGRAPH_NO_GRAPH. */
 uint32_t witgraph_write(witgraph_graph *graph, size_t *needed);
 
-/* Copies what the last witgraph_apply or witgraph_write told: nothing, if none was called or the last one told nothing. It may
- * be copied again.
+/* Copies the text that the last witgraph_apply or witgraph_write left. It is empty if none was called, or the last one left
+ * none. It may be copied again.
  *
  * output, capacity, needed  as for witgraph_execute.
  *

@@ -37,7 +37,7 @@ import sys
 
 from toolchain import TOP, lines, loaded
 
-MINUTES, TURNS, PART = 40, 11, 30
+MINUTES, TURNS, PART = 44, 11, 30
 EDIT, PROOF, LINE = 30, 25, 0.2
 COMMITS, RARELY = 5000, 12
 # What .gitignore names.

@@ -1,6 +1,6 @@
 #!/usr/bin/env python3
-"""Carries out a document of commands from standard input, as tools/wit2json.py writes it of WIT, and tells what the graph
-has then: of each world what it imports and exports, of each interface its types and functions.
+"""Carries out a document of commands from standard input, as tools/wit2json.py makes it from WIT. Then prints what each
+world of the graph imports and exports, and the types and functions of each interface.
 
     tools/wit2json.py examples/wasi/wit/0.2.0/*.wit | python3 bindings/python/graph.py
 """

@@ -122,6 +122,9 @@ class Documents(unittest.TestCase):
     def test_replies(self):
         expected = {
             '"done"': wg.Done(),
+            '{"done": {"world": 2}}': wg.Done(2),
+            '{"done": {"world": 2, "unmatched": ["a:b/i"]}}': wg.Done(2, ["a:b/i"]),
+            '"no-package"': wg.NoPackage(),
             '"no-world"': wg.NoWorld(),
             '{"pushed": 3}': wg.Pushed(3),
             '{"world": 0}': wg.WorldReply(0),
@@ -132,6 +135,7 @@ class Documents(unittest.TestCase):
         }
         for text, reply in expected.items():
             self.assertEqual(wg.from_json(wg.Reply, json.loads(text)), reply)
+            self.assertEqual(wg.to_json(reply), json.loads(text))
             self.assertEqual(wg.accepted(reply), reply.reply if isinstance(reply, wg.Merge) else reply)
 
     def test_a_refusal_is_raised(self):
@@ -411,6 +415,14 @@ class Calls(unittest.TestCase):
             self.assertEqual(made.replies[1].error.number, 5)
             self.assertEqual(made.graph.features, ["f"])
             self.assertEqual(made.graph.types, [record])
+
+    def test_keys_that_no_import_has_are_told(self):
+        world = wg.World("w", {"interface-0": wg.InterfaceItem(0)}, includes=[])
+        package = wg.UnresolvedPackage("a:b", worlds=[world], interfaces=[wg.Interface("i")])
+        commands = [wg.Exportize("a:b", "w", None, ["a:b/i", "a:b/j"]), wg.Importize("a:b", "v"), wg.Importize("a:c", "v")]
+        for run in runners():
+            replies = run([push(package), *commands]).replies
+            self.assertEqual(replies, [wg.Pushed(0), wg.Done(0, ["a:b/j"]), wg.NoWorld(), wg.NoPackage()])
 
     def test_faults(self):
         for run in runners():

@@ -1,6 +1,6 @@
 #!/usr/bin/env python3
-"""Links 200 packages one by one on a graph that stays, each of which uses a type of the one before it, and tells each with its
-function and how many interfaces its world imports.
+"""Links 200 packages one by one on a graph that stays. Each uses a type of the one before it. Prints each with its function
+and how many interfaces its world imports.
 
     WITGRAPH_SHARED=bindings/python/witgraph/libwitgraph.so python3 bindings/python/two_hundred.py
 """

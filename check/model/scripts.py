@@ -127,6 +127,16 @@ class Session:
                 return self.answer_of(word, package, package.worlds[world], rest)
         return None
 
+    def outcome(self, words):
+        """What JSON tells of a command that changes a world before it is carried out: the keys that are listed and that no import
+        has, or that the world or its package isn't there."""
+        word, name, world, *rest = words
+        package = self.graphs[-1].find(name)
+        if package is None or world not in package.worlds:
+            return "no-package" if package is None else "no-world"
+        names = {it.key_text() for it in package.worlds[world].imports}
+        return [it for it in rest[1:] if it not in names] if word == "exportize" else []
+
     def answer_of(self, word, package, world, rest):
         """The texts that a command may print that is asked of a world."""
         graph = self.graphs[-1]

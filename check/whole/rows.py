@@ -42,9 +42,11 @@ def line(difference, reply, command):
     """A reply as a script has it."""
     if reply == "no return" or reply is None:
         return "panic: no return"
-    if reply in ("done", "no-world"):
-        return reply.replace("-", " ")
+    if reply in ("done", "no-world", "no-package"):
+        return "done" if reply == "done" else "no world"
     match reply:
+        case {"done": _}:
+            return "done"
         case {"refused": refused}:
             return f"refused {refused['error']['number'] or '?'} {refused['error']['text']}"
         case {"panic": text}:

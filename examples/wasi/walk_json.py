@@ -20,7 +20,7 @@ sys.path.append(str(WASI.parent.parent / "tools"))
 import wit  # noqa: E402
 import wit2json  # noqa: E402
 
-WORDS = {"done": "done", "no-world": "no world"}
+WORDS = {"done": "done", "no-world": "no world", "no-package": "no world"}
 
 
 def push_of(path):

@@ -24,7 +24,8 @@ ROOT = """//! The modules that `tools/plain-rust` made, one for each crate of th
 #![allow(
     dead_code,
     unused_imports,
-    reason = "crates hand on more than this crate does, and import what their contracts alone name"
+    unused_labels,
+    reason = "crates hand on more than this crate does, import what their contracts alone name, and name loops for proofs"
 )]
 #![allow(
     clippy::collapsible_match,

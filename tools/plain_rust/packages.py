@@ -12,6 +12,7 @@ PACKAGES = {
     "semver": "librust-semver-dev",
     "serde": "librust-serde-dev",
     "serde_json": "librust-serde-json-dev",
+    "unicode-ident": "librust-unicode-ident-dev",
 }
 CONFIG = f"""[source.crates-io]
 replace-with = "debian"

@@ -6,12 +6,12 @@
     replies = resolve.apply([{"push-groups": ..}, wg.Select(["wasi:cli@0.2.0"], "command")])
     command = resolve.graph.worlds[wg.accepted(replies[1], wg.WorldReply).id]
 
-A `Resolve` keeps a graph. `apply` carries out commands, and gives a reply for each: a command is one of the classes of
-commands.py, or a dict as docs/JSON.md says and as `tools/wit2json.py` writes. The classes have the names of wit-parser; an id
-is an index in its list. `run` does the same once, with a graph that goes in and a `Run` that comes out, and `run_by` takes a
-build of the program `witgraph_json` for that. `execute` and `explain` run scripts (docs/SCRIPT.md).
+A `Resolve` keeps a graph. `apply` carries out commands, and gives a reply for each. A command is one of the classes of
+commands.py, or a dict as docs/JSON.md says and `tools/wit2json.py` writes. The classes have the names of wit-parser; an id is
+an index in its list. `run` does the same once: a graph goes in, and a `Run` comes out. `run_by` takes a build of the program
+`witgraph_json` for that. `execute` and `explain` run scripts (docs/SCRIPT.md).
 
-Calls in several threads don't disturb each other. Needs Python 3.10 and nothing else.
+Calls in several threads don't disturb each other. The package needs only Python 3.10.
 """
 from . import calls, commands, data, documents, errors, kinds, replies, resolve
 from .calls import *

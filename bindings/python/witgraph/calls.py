@@ -25,14 +25,14 @@ SMALLEST_ROOM = 1 << 16
 
 
 class Rooms:
-    """Memory for outputs, which is kept. Each room serves one call at a time, and none is shared with a forked process. Of a
-    room that is never written to the system keeps no page, so it may be larger than what is mostly needed."""
+    """Memory for outputs, kept between calls. A room serves one call at a time, and no forked process shares one. The
+    system keeps no page for a room that nothing has written to, so a room may be larger than most calls need."""
 
     def __init__(self) -> None:
         self._free: list[mmap.mmap] = []
 
     def take(self, least: int) -> mmap.mmap:
-        """A room of so many bytes at the least."""
+        """A room of at least this many bytes."""
         try:
             room = self._free.pop()
         except IndexError:
@@ -46,7 +46,7 @@ class Rooms:
 
 
 class GraphHandle(ctypes.Structure):
-    """Where the library has a graph that stays: a null pointer where none is open."""
+    """Where the library has a graph that stays: a null pointer if none is open."""
 
     _fields_ = [("session", ctypes.c_void_p)]
 
@@ -57,7 +57,8 @@ def expect_memory(status: int) -> None:
 
 
 class OpenGraph:
-    """A graph that stays in the library, until nothing refers to this. Calls in several threads wait for each other."""
+    """A graph that stays in the library until nothing refers to this object. Calls in several threads wait for each
+    other."""
 
     def __init__(self, library: ctypes.CDLL, rooms: Rooms):
         self._library, self._rooms, self._lock = library, rooms, threading.Lock()
@@ -68,8 +69,8 @@ class OpenGraph:
         weakref.finalize(self, library.witgraph_close, handle).atexit = False
 
     def apply(self, document: bytes) -> bytes:
-        """Carries out the commands of a document, and gives what is replied, or the first fault. A `MemoryError` says that
-        they weren't carried out, or not to their end."""
+        """Carries out the commands of a document, and gives the replies, or the first fault. A `MemoryError` says that
+        it didn't carry them out, or not to their end."""
         needed = ctypes.c_size_t()
         with self._lock:
             expect_memory(self._library.witgraph_apply(self._handle, document, len(document), needed))
@@ -83,7 +84,7 @@ class OpenGraph:
             return self._reply(needed)
 
     def _reply(self, needed: ctypes.c_size_t) -> bytes:
-        """What the last call left, which is so long."""
+        """The text of this length that the last call left."""
         room = self._rooms.take(needed.value)
         output = ctypes.byref(ctypes.c_char.from_buffer(room))
         self._library.witgraph_reply(self._handle, output, len(room), needed)
@@ -93,8 +94,8 @@ class OpenGraph:
 
 
 class Library:
-    """A shared library with the functions of include/witgraph.h: the one at a path, or that which WITGRAPH_SHARED names, or
-    `libwitgraph.so` beside this file, or else the system's."""
+    """A shared library with the functions of include/witgraph.h: the one at a path, else the one that WITGRAPH_SHARED
+    names, else `libwitgraph.so` beside this file, else the system's."""
 
     def __init__(self, path: Optional[str] = None):
         beside = os.path.join(os.path.dirname(os.path.abspath(__file__)), "libwitgraph.so")
@@ -118,8 +119,8 @@ class Library:
             function.argtypes, function.restype = types, ctypes.c_uint32
 
     def _call(self, name: str, text: bytes) -> tuple[int, bytes]:
-        """The status of a call and what it writes. The call is made twice only where its output is over four times as long as
-        the text, and longer than the room that is kept."""
+        """The status of a call and what it writes. The call is made twice only if its output is over four times as long
+        as the text, and longer than the kept room."""
         function, needed = getattr(self._library, name), ctypes.c_size_t()
         room = self._rooms.take(4 * len(text))
         while True:
@@ -134,16 +135,16 @@ class Library:
         return status, written
 
     def open_graph(self) -> OpenGraph:
-        """An empty graph that stays."""
+        """Opens an empty graph that stays."""
         return OpenGraph(self._library, self._rooms)
 
     def carry_out(self, document: bytes) -> bytes:
-        """What comes out of a document."""
+        """The document that comes out of one that goes in."""
         return self._call("witgraph_json", document)[1]
 
     def run(self, commands: Iterable[AnyCommand], graph: Optional[Graph] = None) -> Run:
-        """Carries out commands on a graph that came out before, or an empty one. Raises a `Fault` where one isn't a command,
-        or the graph isn't valid."""
+        """Carries out commands on the graph of an earlier run, or on an empty one. Raises a `Fault` if one isn't a
+        command, or the graph isn't valid."""
         return run_of(self.carry_out(document_of(commands, graph)))
 
     def _script(self, name: str, script: str) -> str:
@@ -158,8 +159,8 @@ class Library:
         return self._script("witgraph_execute", script)
 
     def explain(self, script: str) -> str:
-        """The refusals of a script, and what its commands don't find, with the lines. Raises `NotUnderstood` with the
-        reason."""
+        """The refusals of a script, and the commands that name something missing, with their lines. Raises
+        `NotUnderstood` with the reason."""
         return self._script("witgraph_explain", script)
 
 
@@ -170,8 +171,8 @@ def library() -> Library:
 
 
 def run(commands: Iterable[AnyCommand], graph: Optional[Graph] = None) -> Run:
-    """Carries out commands on a graph that came out before, or an empty one. Raises a `Fault` where one isn't a command, or
-    the graph isn't valid."""
+    """Carries out commands on the graph of an earlier run, or on an empty one. Raises a `Fault` if one isn't a command,
+    or the graph isn't valid."""
     return library().run(commands, graph)
 
 
@@ -181,12 +182,14 @@ def execute(script: str) -> str:
 
 
 def explain(script: str) -> str:
-    """The refusals of a script, and what its commands don't find, with the lines. Raises `NotUnderstood` with the reason."""
+    """The refusals of a script, and the commands that name something missing, with their lines. Raises `NotUnderstood`
+    with the reason."""
     return library().explain(script)
 
 
 def run_by(program: str, commands: Iterable[AnyCommand], graph: Optional[Graph] = None) -> Run:
-    """As `run`, by a build of the program `witgraph_json`. Raises `ProgramFailed` where that doesn't write a whole document."""
+    """As `run`, by a build of the program `witgraph_json`. Raises `ProgramFailed` if it doesn't write a whole
+    document."""
     ran = subprocess.run([program], input=document_of(commands, graph), capture_output=True, check=False)
     try:
         return run_of(ran.stdout)

@@ -22,14 +22,14 @@ class AddFeature(Tagged, tag="add-feature", form="field"):
 
 @dataclass
 class SetAllFeatures(Tagged, tag="set-all-features", form="field"):
-    """Turns all features on, or off but for those that were added: `Done`."""
+    """Turns all features on, or off except those that were added: `Done`."""
 
     all: bool
 
 
 @dataclass
 class SetTrackRule(Tagged, tag="set-track-rule", form="field"):
-    """Says which versions are of one track: `Done`."""
+    """Says which versions share a track: `Done`."""
 
     rule: str  # "published" or "with-prereleases"
 
@@ -51,7 +51,7 @@ class MergeGraph(Tagged, tag="merge", form="field"):
 
 @dataclass
 class Importize(Tagged, tag="importize"):
-    """Makes the exports of a world its imports: `Done` or `NoWorld`."""
+    """Makes the exports of a world its imports: `Done`, `NoWorld` or `NoPackage`."""
 
     package: str
     world: str
@@ -60,7 +60,7 @@ class Importize(Tagged, tag="importize"):
 
 @dataclass
 class Exportize(Tagged, tag="exportize"):
-    """Makes imports of a world its exports: `Done` or `NoWorld`."""
+    """Makes imports of a world its exports: `Done`, `NoWorld` or `NoPackage`."""
 
     package: str
     world: str
@@ -70,7 +70,7 @@ class Exportize(Tagged, tag="exportize"):
 
 @dataclass
 class Semver(Tagged, tag="semver"):
-    """Leaves of a world's imports the newest version on each track: `Done` or `NoWorld`."""
+    """Keeps only the newest version on each track among a world's imports: `Done`, `NoWorld` or `NoPackage`."""
 
     package: str
     world: str
@@ -78,7 +78,7 @@ class Semver(Tagged, tag="semver"):
 
 @dataclass
 class Select(Tagged, tag="select"):
-    """Which world a name chooses among main packages: `WorldReply`."""
+    """Finds the world that a name chooses among main packages: `WorldReply`."""
 
     packages: list[str]
     world: Optional[str] = None
@@ -86,14 +86,14 @@ class Select(Tagged, tag="select"):
 
 @dataclass
 class PackageDependencies(Tagged, tag="package-dependencies"):
-    """On which packages a package depends directly: `Packages`."""
+    """The packages on which a package depends directly: `Packages`."""
 
     package: str
 
 
 @dataclass
 class InterfaceDependencies(Tagged, tag="interface-dependencies"):
-    """On which interfaces an interface depends directly: `Interfaces`."""
+    """The interfaces on which an interface depends directly: `Interfaces`."""
 
     package: str
     interface: str
@@ -101,12 +101,12 @@ class InterfaceDependencies(Tagged, tag="interface-dependencies"):
 
 @dataclass
 class PackageOrder(Tagged, tag="package-order", form="alone-tag"):
-    """All packages, each behind those that it depends on: `Packages`."""
+    """All packages, each after its dependencies: `Packages`."""
 
 
 @dataclass
 class CanonicalId(Tagged, tag="canonical-id"):
-    """The id of an interface or a world with its track for a version: `Text`."""
+    """The id of an interface or a world, with its track in the place of the version: `Text`."""
 
     package: str
     name: str
@@ -114,7 +114,7 @@ class CanonicalId(Tagged, tag="canonical-id"):
 
 @dataclass
 class CoreNamesOf(Tagged, tag="core-names"):
-    """The names in core wasm of what a world imports and exports: `CoreNames`."""
+    """The core wasm names of what a world imports and exports: `CoreNames`."""
 
     package: str
     world: str

@@ -24,9 +24,9 @@ Type = Union[str, TypeId]
 # positions in the files of a group, or of a graph
 Span = tuple[int, int]
 
-# How JSON has a thing under its tag: as an object of its fields, as its only field alone, as a list of its fields, or as the
-# tag alone.
-Form = Literal["object", "field", "list", "alone-tag"]
+# How JSON has a thing under its tag: as an object of its fields, as its only field alone, as a list of its fields, as the tag
+# alone, or as the tag alone where it has no field and else as an object.
+Form = Literal["object", "field", "list", "alone-tag", "tag-or-object"]
 
 
 class Tagged:
@@ -76,7 +76,7 @@ class Field:
 
 @dataclass
 class Case:
-    """A case of a variant, with the type of its payload where it has one."""
+    """A case of a variant, with the type of its payload if it has one."""
 
     name: str
     type: Optional[Type] = None
@@ -224,7 +224,7 @@ class Alias(Tagged, tag="type", form="field"):
 
 @dataclass
 class Unknown(Tagged, tag="unknown", form="alone-tag"):
-    """A type of another package, of which an unresolved package knows the name alone."""
+    """A type of another package; an unresolved package knows only its name."""
 
 
 TypeDefKind = Union[
@@ -416,8 +416,8 @@ class Place:
 
 @dataclass
 class UnresolvedPackageGroup:
-    """A package, those that are nested in its files, and the files. A span is a range of positions in the files, one behind the
-    other, each of which takes its bytes and one more."""
+    """A package, the packages that are nested in its files, and the files. A span is a range of positions in the files.
+    These follow one another, each with one position more than bytes."""
 
     main: UnresolvedPackage
     nested: list[UnresolvedPackage] = field(default_factory=list)
@@ -439,12 +439,12 @@ class Graph:
 
     @functools.cached_property
     def package_names(self) -> dict[str, PackageId]:
-        """The packages by their names: made when first asked for, and kept. Who then changes `packages` deletes it
-        (`del graph.package_names`), so that it is made anew."""
+        """The packages by name, made on first use and kept. If you then change `packages`, `del graph.package_names`, so
+        that it is made anew."""
         return {it.name: PackageId(n) for n, it in enumerate(self.packages)}
 
     def id_of(self, id: InterfaceId) -> Optional[str]:
-        """The full name of an interface, `namespace:package/name@1.0.0`, where it has one."""
+        """The full name of an interface, `namespace:package/name@1.0.0`, if it has one."""
         interface = self.interfaces[id]
         if interface.package is None or interface.name is None:
             return None
@@ -462,7 +462,7 @@ class Graph:
         return key.removeprefix("%")
 
     def place_of(self, span: Span) -> Optional[Place]:
-        """Where a span begins, as texts of refusals tell it; None where no file has it."""
+        """Where a span begins, as texts of refusals show it; None if no file has it."""
         position = span[0]
         for source in self.sources:
             contents = source.text.encode()

@@ -24,7 +24,7 @@ OPTIONAL = {"docs", "stability", "span", "external_id", "result", "package", "wo
 
 
 def member_name(cls: type, name: str) -> str:
-    """The name of a field in JSON. A word of Python's own has a line behind it as a field."""
+    """The name of a field in JSON. A field that Python reserves has a `_` behind it."""
     return "as" if cls is IncludeName and name == "new" else name.rstrip("_").replace("_", "-")
 
 
@@ -40,6 +40,8 @@ def to_json(value: Any) -> Any:
         if form == "list":
             return {tag: [to_json(it) for it in parts]}
         members = object_of(value)
+        if form == "tag-or-object" and not members:
+            return tag
         return {tag: members} if tag else members
     if isinstance(value, dict):
         return {name: to_json(it) for name, it in value.items()}
@@ -51,7 +53,7 @@ def object_of(value: Any) -> dict[str, Any]:
     made: dict[str, Any] = {}
     for it in fields(value):
         part = getattr(value, it.name)
-        if part is None and it.name in OPTIONAL:
+        if (part is None and it.name in OPTIONAL) or (it.name == "unmatched" and not part):
             continue
         written = {"contents": part} if it.name == "docs" else to_json(part)
         made[member_name(type(value), it.name)] = written
@@ -64,14 +66,14 @@ def hints_of(cls: type) -> dict[str, Any]:
 
 
 def hint_of(cls: type, name: str, members: dict[str, Any]) -> Any:
-    """The type of a member; which fields a refused error has its number says."""
+    """The type of a member. The number of a refused error says which fields it has."""
     if cls is Refused and name == "fields":
         return KINDS.get(members["error"]["number"], Semantic)
     return hints_of(cls)[name]
 
 
 def from_json(hint: Any, value: Any) -> Any:
-    """The value of a type that JSON's own value says."""
+    """The value of a type that a value of JSON stands for."""
     origin = typing.get_origin(hint)
     if origin is Union:
         return read_union(typing.get_args(hint), value)
@@ -95,14 +97,14 @@ def expect(cls: Any, value: Any) -> Any:
 
 
 def tag_of(value: Any) -> Optional[str]:
-    """The tag under which a value stands, where it has one: the text that it is, or the first name of an object."""
+    """The tag of a value, if it has one: the text that it is, or the first name of an object."""
     if isinstance(value, dict):
         return next(iter(value), None)
     return value if isinstance(value, str) else None
 
 
 def read_union(choices: tuple[Any, ...], value: Any) -> Any:
-    """The value of the one of several types to which its tag leads, or its own form."""
+    """A value of the one of several types that its tag chooses, or else its form."""
     if value is None and type(None) in choices:
         return None
     tag = tag_of(value)
@@ -119,7 +121,7 @@ def read_union(choices: tuple[Any, ...], value: Any) -> Any:
 
 def read_class(cls: Any, value: Any) -> Any:
     tag, form = getattr(cls, "tag", None), getattr(cls, "form", "object")
-    if form == "alone-tag":
+    if form == "alone-tag" or (form == "tag-or-object" and value == tag):
         return cls()
     content = expect(dict, value)[tag] if tag else value
     names = [it.name for it in fields(cls)]
@@ -145,7 +147,8 @@ def read_object(cls: Any, members: dict[str, Any]) -> Any:
 
 
 def graph_of(whole: dict[str, Any]) -> Graph:
-    """The graph of a member `resolve`, with what stands beside it put where it belongs; all but `graph` may lack."""
+    """The graph of a member `resolve`, with what stands beside it put where it belongs. All but `graph` may be
+    missing."""
     graph, details = whole["graph"], whole.get("details", {})
     features = whole.get("features", {"all": False, "names": []})
     made = Graph(
@@ -218,7 +221,7 @@ def whole_of(graph: Graph) -> dict[str, Any]:
 
 
 def taken(thing: dict[str, Any], *names: str) -> dict[str, Any]:
-    """The members that the layout leaves out, which are taken away."""
+    """Takes away the members that the layout leaves out, and gives them."""
     return {name: thing.pop(name) for name in ("span", "external-id", *names) if name in thing}
 
 
@@ -260,13 +263,14 @@ def text_of(value: Any) -> str:
 
 
 def document_of(commands: Iterable[AnyCommand], graph: Optional[Graph] = None) -> bytes:
-    """The document of commands on a graph, as `witgraph_json` reads it: on an empty one where it lacks, or on one that stays."""
+    """The document of commands on a graph, as `witgraph_json` reads it. Without a graph, the commands are for an empty
+    one, or one that stays."""
     begin = "" if graph is None else f'"resolve":{text_of(whole_of(graph))},'
     return f'{{{begin}"commands":{text_of(to_json(list(commands)))}}}'.encode()
 
 
 def object_with_names(members: list[tuple[str, Any]]) -> dict[str, Any]:
-    """An object, in which no name stands twice."""
+    """An object. Raises `Unreadable` if a name stands twice."""
     made = dict(members)
     if len(made) != len(members):
         names = [name for name, _ in members]
@@ -279,7 +283,7 @@ def fault_of(value: dict[str, Any]) -> Fault:
 
 
 def run_of(output: Union[str, bytes]) -> Run:
-    """What a document says that comes out. Raises a `Fault` where it tells one."""
+    """The run that an output tells. Raises a `Fault` if it tells one."""
     value = json.loads(output, object_pairs_hook=object_with_names)
     if "fault" in value:
         raise fault_of(value)
@@ -287,7 +291,7 @@ def run_of(output: Union[str, bytes]) -> Run:
 
 
 def replies_of(output: bytes) -> list[Reply]:
-    """The replies to commands on a graph that stays. Raises a `Fault` where one is told."""
+    """The replies to commands on a graph that stays. Raises a `Fault` if the output tells one."""
     value = json.loads(output)
     if "fault" in value:
         raise fault_of(value)

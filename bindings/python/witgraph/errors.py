@@ -1,4 +1,4 @@
-"""What is raised. Each error can be pickled, and so leaves a process of a pool as it was raised there."""
+"""What calls raise. Each error can be pickled, so it leaves a process of a pool as it was raised there."""
 from __future__ import annotations
 
 from typing import Optional, Union
@@ -36,7 +36,7 @@ class Fault(Error):
 
 
 class NotUnderstood(Error):
-    """A script of which a line isn't understood: its number, and what is told of it. Nothing of it was run."""
+    """A script has a line that isn't understood: its number, and the text about it. Nothing of the script was run."""
 
     def __init__(self, line: int, text: str):
         super().__init__(line, text)
@@ -47,8 +47,8 @@ class NotUnderstood(Error):
 
 
 class ProgramFailed(Error):
-    """A program that ended without what it was to write: its `status`, negative where a signal ended it, and what it wrote to
-    standard error."""
+    """A program ended without its output: its `status`, negative if a signal ended it, and what it wrote to standard
+    error."""
 
     def __init__(self, program: str, status: int, stderr: str):
         super().__init__(program, status, stderr)
@@ -83,8 +83,8 @@ class Refusal(Error):
 
 
 class ShapeFault(Error):
-    """A pushed package hasn't the shape that it must have: `path` leads to it from the push, `place` in it to what breaks
-    the `clause`, of which `text` says what it asks."""
+    """A pushed package lacks its shape. `path` leads to it from the push, `place` from there to what breaks the
+    `clause`, and `text` says what the clause asks."""
 
     def __init__(self, path: Path, clause: str, place: str, text: str):
         super().__init__(path, clause, place, text)
@@ -95,4 +95,4 @@ class ShapeFault(Error):
 
 
 class Unreadable(Error, ValueError):
-    """A value that isn't of the form that is expected."""
+    """A value has another form than expected."""

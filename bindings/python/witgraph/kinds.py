@@ -14,7 +14,7 @@ __all__ = [
 
 @dataclass
 class PackageNotFound:
-    """A package that is depended on isn't among those that are known."""
+    """A package depends on one that isn't known."""
 
     requested: str
     known: list[str]
@@ -22,7 +22,7 @@ class PackageNotFound:
 
 @dataclass
 class WorldNotFound:
-    """A package that is depended on has no such world."""
+    """A package depends on a world that the other package lacks."""
 
     requested: str
     package: str
@@ -30,7 +30,7 @@ class WorldNotFound:
 
 @dataclass
 class InterfaceNotFound:
-    """A package that is depended on has no such interface."""
+    """A package depends on an interface that the other package lacks."""
 
     requested: str
     package: str
@@ -77,7 +77,7 @@ class StabilityMismatch:
 
 @dataclass
 class Semantic:
-    """Anything else, told by a message and by the cause of the error."""
+    """Anything else, with a message and the error's cause."""
 
     message: str
 
@@ -114,7 +114,7 @@ KINDS: dict[int, type[Any]] = {
 
 @dataclass
 class WayStep:
-    """A step of the way of a refusal: what leads to what, and where that stands, if a line says it."""
+    """A step of the way of a refusal: what leads to what, and where, if a line says it."""
 
     from_: str
     to: str

@@ -1,7 +1,7 @@
 """The replies to commands, and what comes out of a run."""
 from __future__ import annotations
 
-from dataclasses import dataclass
+from dataclasses import dataclass, field
 from typing import Any, Optional, TypeVar, Union, overload
 
 from .data import InterfaceId, PackageId, Graph, Place, Span, Tagged, TypeId, WorldId
@@ -9,14 +9,23 @@ from .errors import Refusal, ShapeFault
 from .kinds import ErrorKind, WayStep
 
 __all__ = [
-    "CoreExport", "CoreImport", "CoreNames", "Done", "Interfaces", "Merge", "Merged", "NotFound", "NotShaped", "NoWorld",
-    "Packages", "Plain", "Pushed", "Refused", "RefusedError", "Reply", "Run", "Text", "Types", "WorldReply", "accepted",
+    "CoreExport", "CoreImport", "CoreNames", "Done", "Interfaces", "Merge", "Merged", "NoPackage", "NotFound", "NotShaped",
+    "NoWorld", "Packages", "Plain", "Pushed", "Refused", "RefusedError", "Reply", "Run", "Text", "Types", "WorldReply",
+    "accepted",
 ]  # fmt: skip
 
 
 @dataclass
-class Done(Tagged, tag="done", form="alone-tag"):
-    """It is carried out."""
+class Done(Tagged, tag="done", form="tag-or-object"):
+    """The command is carried out, on this world if it changes one. No import had the keys that are `unmatched`."""
+
+    world: Optional[WorldId] = None
+    unmatched: list[str] = field(default_factory=list)
+
+
+@dataclass
+class NoPackage(Tagged, tag="no-package", form="alone-tag"):
+    """There is no such package."""
 
 
 @dataclass
@@ -26,12 +35,12 @@ class NoWorld(Tagged, tag="no-world", form="alone-tag"):
 
 @dataclass
 class NotFound(Tagged, tag="not-found", form="alone-tag"):
-    """What a question names isn't there."""
+    """The graph lacks what a question names."""
 
 
 @dataclass
 class NotShaped(Tagged, tag="not-shaped"):
-    """A package hasn't its shape, and nothing is added: the first such package, and what it lacks first."""
+    """A package lacks its shape, so nothing is added: the first such package, and its first fault."""
 
     path: list[Union[str, int]]
     clause: str
@@ -52,7 +61,7 @@ class Pushed(Tagged, tag="pushed", form="field"):
 
 @dataclass
 class Merged(Tagged, tag="merged"):
-    """Where each thing of the other graph stands: at its old place is its new id."""
+    """The new id of each thing of the other graph, at the place of its old one."""
 
     types: list[Optional[TypeId]]
     interfaces: list[Optional[InterfaceId]]
@@ -149,8 +158,9 @@ class CoreNames(Tagged, tag="core-names"):
 
 
 Plain = Union[
-    Done, NoWorld, NotFound, NotShaped, Pushed, Merged, Refused, WorldReply, Packages, Interfaces, Types, Text, CoreNames
-]
+    Done, NoPackage, NoWorld, NotFound, NotShaped, Pushed, Merged, Refused, WorldReply, Packages, Interfaces, Types, Text,
+    CoreNames,
+]  # fmt: skip
 
 
 @dataclass
@@ -176,8 +186,8 @@ def accepted(reply: Reply, kind: type[T]) -> T: ...
 
 
 def accepted(reply: Reply, kind: Optional[type[Any]] = None) -> Any:
-    """The reply; of a merge its own. Raises the `Refusal` or the `ShapeFault` that it is, and a `TypeError` where a kind of
-    reply is given and it is of another one."""
+    """The reply, or for a merge the reply to the merge itself. Raises it if it is a `Refusal` or a `ShapeFault`, and a
+    `TypeError` if a kind of reply is given and it is of another one."""
     if isinstance(reply, Merge):
         reply = reply.reply
     if isinstance(reply, Refused):

@@ -23,7 +23,7 @@ class Resolve:
         resolve.apply([push])
         resolve.graph.worlds
 
-    It begins empty, or with a graph, of which a `Fault` is raised where it isn't valid. Each `apply` costs what it changes.
+    It begins empty, or with a graph. Raises a `Fault` if the graph isn't valid. Each `apply` costs what it changes.
     """
 
     def __init__(self, graph: Optional[Graph] = None, by: Optional[Library] = None) -> None:
@@ -35,8 +35,8 @@ class Resolve:
             replies_of(self._open.apply(document_of([], graph)))
 
     def apply(self, commands: Iterable[AnyCommand]) -> list[Reply]:
-        """Carries out commands, and gives a reply for each. Raises a `Fault` where one isn't a command; the graph is as before
-        then. After a `MemoryError` it has what the commands did that were carried out."""
+        """Carries out commands, and gives a reply for each. Raises a `Fault` if one isn't a command, and leaves the
+        graph as before. After a `MemoryError` the graph has what the commands did that were carried out."""
         try:
             replies = replies_of(self._open.apply(document_of(commands)))
         except MemoryError:
@@ -47,8 +47,8 @@ class Resolve:
 
     @property
     def graph(self) -> Graph:
-        """The data of the graph, read when looked at, and kept until a command changes something. Who changes these data changes
-        nothing here."""
+        """The data of the graph, read when you look at it, and kept until a command changes something. If you change
+        these data, the graph stays as it is."""
         if self._may_differ:
             text = self.text
             if text != self._text:

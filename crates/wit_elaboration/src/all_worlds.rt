@@ -17,13 +17,12 @@ use wit_data::World;
 use wit_graph_data::{Graph, ResolveResult};
 use wit_values::Items;
 
-/// Elaborates all worlds of a graph over one closure. In it no interface comes back to itself along its uses, and in each
-/// world what stands under the key of an interface is that interface, and the interfaces of all entries are there. It
-/// costs what the types of all interfaces, their uses and what each world reaches cost.
+/// Elaborates all worlds of a graph over one closure. Uses of interfaces have no cycle; in each world the key of an
+/// interface names that interface, and the interfaces of all entries are there. It costs as much as the types of all
+/// interfaces, their uses and what each world reaches.
 ///
-/// It is refused, with the kind `InvalidTransitiveDependency` (4), where what the exports of some world need from
-/// outside is exported, at the span of that world and under the name that its elaboration tells. Else it is refused for
-/// want of memory (28) alone. After a refusal the graph is as before.
+/// Refused with `InvalidTransitiveDependency` (4), as `elaborate` is, if the exports of some world are in conflict.
+/// Else it is refused only for want of memory (28). A refusal leaves the graph as it was.
 ///
 /// Source: `merge` and `merge_world_imports_based_on_semver` of wit-parser 0.263.0.
 pub fn elaborate_all(alloc: Global, graph: &mut Graph) -> ResolveResult<()>

@@ -10,10 +10,9 @@ use wit_digraph::is_acyclic;
 use wit_graph_data::Graph;
 use wit_values::Table;
 
-/// Whether `elaborate` may be called for a world: it is there, no interface comes back to itself
-/// along its uses, what stands under the key of an interface is that interface, and the interfaces
-/// of all entries are there. A valid graph has this of each of its worlds. It is told of any graph.
-/// The only error is want of memory.
+/// Whether `elaborate` may be called for a world: the world is there, uses of interfaces have no cycle, the key of an
+/// interface names that interface, and the interfaces of all entries are there. A valid graph has this for each of its
+/// worlds. Any graph may be asked. The only error is want of memory.
 pub fn is_elaborable(alloc: Global, graph: &Graph, world: WorldId) -> Result<bool, AllocError>
     ensures { IfOk result (λ elaborable. IsTrue elaborable ↔ CanElaborate graph.now world) }
 {

@@ -309,15 +309,14 @@ fn lists_of(
     Ok(Lists { imports, exports })
 }
 
-/// Elaborates a world of a graph: its imports become the listed ones with all that they, the type
-/// uses and the exports need, sorted by class, each after what it uses; its exports the functions
-/// and then the interfaces, each after the exported ones that it uses. The world can be elaborated,
-/// as `is_elaborable` tells; each world of a valid graph can.
+/// Elaborates a world of a graph. Its imports become the listed ones with all that they, the type uses and the exports
+/// need, sorted by class, dependencies first. Its exports become the functions and then the interfaces, dependencies
+/// first. The world can be elaborated (`is_elaborable`), as each world of a valid graph can.
 ///
-/// It is refused, with the kind `InvalidTransitiveDependency` (4), where an exported interface uses
-/// one that is not exported under its own key and that reaches one which is. The name is the key of
-/// the first listed interface that leads to such a use, the span the world's. Else it is refused
-/// for want of memory (28) alone. After a refusal the graph is as before.
+/// Refused with `InvalidTransitiveDependency` (4) if an exported interface uses one that isn't exported under its own
+/// key and that reaches one which is. The error's name is the key of the first listed interface that leads to such a
+/// use, its span that of the world. Else it is refused only for want of memory (28). A refusal leaves the graph as it
+/// was.
 ///
 /// Source: `elaborate_world` of wit-parser 0.263.0.
 pub fn elaborate(alloc: Global, graph: &mut Graph, world: WorldId) -> ResolveResult<()>

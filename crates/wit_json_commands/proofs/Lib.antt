@@ -1,10 +1,11 @@
 mod EachAnswered
-mod FilePlaces
 mod FirstKnown
 mod GoesOn
 mod Named
 mod Outcomes
 mod PackagePaths
 mod Paths
+mod SameTexts
 mod FirstUnshaped
 mod Within
+mod WithdrawnAnswers

@@ -1,7 +1,7 @@
 -- Answers to commands as JSON.
-use Rattle.std.specs.Prelude.{List, ◌++◌, codes}
+use Rattle.std.specs.Prelude.{ℕ, List, [], ◌∷◌, ◌++◌, codes}
 use Rattle.json.specs.Json.{Json}
-use Rattle.wit_json.specs.Values.{json_of_number, json_of_text, list_of, member, object, tagged}
+use Rattle.wit_json.specs.Values.{Member, json_of_number, json_of_text, list_of, member, object, tagged}
 use Rattle.wit_json_commands.specs.CoreNamesJson.{json_of_core_names}
 use Rattle.wit_json_commands.specs.RefusalJson.{json_of_refused}
 use Rattle.wit_json_commands.specs.Remaps.{json_of_remap}
@@ -11,11 +11,25 @@ use Rattle.wit_json_commands.specs.declared.replies.answers.Answer.TheVariants a
 use Rattle.wit_json_commands.specs.declared.replies.answers.Response.{Response}
 use Rattle.wit_json_commands.specs.declared.replies.answers.Response.TheVariants as response
 
+-- the keys that no import had, left out where each was one's
+abbrev pub unmatched_member : List (List ℕ) → List Member
+unmatched_member [] = []
+unmatched_member (key ∷ keys) =
+    member (codes "unmatched") (list_of json_of_text (key ∷ keys))
+
+-- a world that a command changed
+abbrev pub json_of_changed : ℕ → List (List ℕ) → Json
+json_of_changed world unmatched =
+    object (member (codes "world") (json_of_number world) ++ unmatched_member unmatched)
+
 -- the answer to a change or a question: a word, or what is answered under a word
 abbrev pub json_of_answer : Answer → Json
 json_of_answer answer.Done = json_of_text (codes "done")
+json_of_answer (answer.ChangedWorld world unmatched) =
+    tagged (codes "done") (json_of_changed world unmatched)
 json_of_answer (answer.Pushed id) = tagged (codes "pushed") (json_of_number id)
 json_of_answer (answer.Merged remap) = tagged (codes "merged") (json_of_remap remap)
+json_of_answer answer.NoPackage = json_of_text (codes "no-package")
 json_of_answer answer.NoWorld = json_of_text (codes "no-world")
 json_of_answer (answer.NotShaped it) = tagged (codes "not-shaped") (json_of_unshaped it)
 json_of_answer answer.NotFound = json_of_text (codes "not-found")

@@ -13,6 +13,7 @@ pub mod RefusalJson
 pub mod Refusals
 pub mod Remaps
 pub mod Runs
+pub mod Targets
 pub mod Tells
 pub mod Unshaped
 pub mod UnshapedJson

@@ -14,11 +14,13 @@ use Rattle.wit_json_commands.specs.declared.commands.orders.Request.{Request}
 use Rattle.wit_json_commands.specs.declared.commands.orders.Request.TheVariants as request
 use Rattle.wit_json_commands.specs.Tells.{AnswersQuestion}
 use Rattle.wit_json_commands.specs.Refusals.{refused}
+use Rattle.wit_json_commands.specs.Targets.{done_answer, missing_answer, target_of}
 use Rattle.wit_json_commands.specs.declared.replies.answers.Answer.{Answer}
 use Rattle.wit_json_commands.specs.declared.replies.answers.Answer.TheVariants as answer
 use Rattle.wit_json_commands.specs.declared.replies.answers.Response.{Response}
 use Rattle.wit_json_commands.specs.declared.replies.answers.Response.TheVariants as response
 use Rattle.wit_json_commands.specs.declared.replies.unshaped.Unshaped.{Unshaped}
+use Rattle.wit_json_commands.specs.declared.runs.targets.Target.{Target}
 use Rattle.wit_ways.specs.Asked.{asked_of}
 use Rattle.wit_ways.specs.Told.{IsTold}
 use Rattle.wit_ways.specs.declared.arrow.Arrow.{Arrow}
@@ -27,13 +29,14 @@ use Rattle.wit_json_commands.specs.Unshaped.{IsChangeShaped, IsUnshaped}
 
 -- ---- commands
 
--- the answer that a reply is to what was asked of a graph, which in words is this: a refusal is told with its way
-abbrev pub AnswersReply : State → List ℕ → Asked → Reply → Answer → Type 0
-AnswersReply state asked brought reply.Done told = told ≡ answer.Done
-AnswersReply state asked brought (reply.Pushed id) told = told ≡ answer.Pushed id
-AnswersReply state asked brought (reply.Merged remap) told = told ≡ answer.Merged remap
-AnswersReply state asked brought reply.NoWorld told = told ≡ answer.NoWorld
-AnswersReply state asked brought (reply.Refused error) told =
+-- the answer that a reply is to what was asked of a graph, which in words is this and leads to this target: a refusal is
+-- told with its way
+abbrev pub AnswersReply : State → List ℕ → Target → Asked → Reply → Answer → Type 0
+AnswersReply state asked target brought reply.Done told = told ≡ done_answer target
+AnswersReply state asked target brought (reply.Pushed id) told = told ≡ answer.Pushed id
+AnswersReply state asked target brought (reply.Merged remap) told = told ≡ answer.Merged remap
+AnswersReply state asked target brought reply.NoWorld told = told ≡ missing_answer target
+AnswersReply state asked target brought (reply.Refused error) told =
     (way : List Arrow) × IsTold state brought error way
     × (told ≡ refused state.graph state.source_map asked way error)
 
@@ -42,7 +45,7 @@ pub record CarriesOutCommand (asked : List ℕ) (old : State) (it : Command) (to
     (new : State) : Type 0 where
   pub reply : Reply
   pub step : Step old it reply new
-  pub answers : AnswersReply new asked (asked_of old it) reply told
+  pub answers : AnswersReply new asked (target_of old.graph it) (asked_of old it) reply told
 
 -- ---- changes
 
@@ -96,3 +99,9 @@ RespondsEach old [] [] new = new ≡ old
 RespondsEach old (it ∷ its) (told ∷ replies) new =
     (mid : State) × Responds old it told mid × RespondsEach mid its replies new
 RespondsEach old _ _ new = ⊥
+
+-- whatever the first replies answer, the others answer too
+abbrev pub RespondAsWell : List Response → List Response → Type 0
+RespondAsWell replies others =
+    (old new : State) (orders : List Order) → RespondsEach old orders replies new
+    → RespondsEach old orders others new

@@ -2,3 +2,4 @@ pub mod Outcomes
 pub mod Paths
 pub mod Placed
 pub mod Searching
+pub mod Withdrawn

@@ -17,6 +17,8 @@ pub use crate::commands::{
 pub use crate::replies::{
     Answer, CoreExport, CoreImport, CoreNames, FilePlace, Refusal, Response, Unshaped, WayStep,
 };
-pub use crate::runs::{execute, fault_text, no_valid_graph, respond, responses_to};
+pub use crate::runs::{
+    execute, fault_text, no_valid_graph, respond, responses_to, without_long_answers,
+};
 pub use wit_commands::Change;
 pub use wit_streams::{Watched, exit_status};

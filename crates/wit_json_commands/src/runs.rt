@@ -2,8 +2,11 @@
 
 mod changes;
 mod documents;
+mod long_answers;
 mod orders;
 mod shapes;
+mod targets;
 
 pub use documents::{execute, fault_text, no_valid_graph, respond};
+pub use long_answers::without_long_answers;
 pub use orders::responses_to;

@@ -27,15 +27,15 @@ use wit_link_spec::AdditionRef;
 use wit_link_spec::laws::{included_are_there, includes_can_be, pushes_stay_valid, worlds_can_be};
 use wit_remap::{Mark, Part, UpdatedWorld, add_parts};
 
-/// Adds an `is_shaped` package to a valid graph under features, its spans moved by so many positions, and answers its
-/// id. The graph stays valid.
+/// Adds an `is_shaped` package to a valid graph under the features that are on, its spans moved by an offset, and
+/// answers its id. The graph stays valid.
 ///
-/// Refused where a package of that name is there (5), where what is named of other packages isn't there (1, 2, 3, 13)
-/// or is no resource (14), where a gate can't be met (9, 10), where what is active needs what is left out (11, 12),
-/// where a result holds a borrow (15), where an include brings a label that is there (7) or a stability that
-/// disagrees (8), or renames nothing (16), where labels are not strongly unique (17) or a setter has no getter (18), where what
-/// exports need from outside is exported (4), where a span would pass 4294967295 (27), and for memory (28). After a
-/// refusal the graph is as before.
+/// Refused if a package of that name is there (5), if a package, world, interface or type that it names isn't there (1,
+/// 2, 3, 13) or is no resource (14), if it doesn't meet a gate (9, 10), if an active thing needs one that is left out
+/// (11, 12), if a result holds a borrow (15), if an include brings a label that is there (7), a stability that
+/// disagrees (8) or a renaming of nothing (16), if labels aren't strongly unique (17), if a setter has no getter (18),
+/// if something that exports need from outside is exported (4), if a span would pass 4294967295 (27), and for memory
+/// (28). A refusal leaves the graph as it was.
 ///
 /// Source: `append` of wit-parser 0.263.0.
 pub fn append(
@@ -63,8 +63,8 @@ pub fn append(
     append_with(alloc, graph, &mut caches, features, package, span_offset)
 }
 
-/// As `append`, with caches of the graph, which become those of the new graph: so it costs what is added. After a refusal
-/// the graph is as before, and the caches are those of it.
+/// As `append`, with caches of the graph, which become those of the new graph. So it costs as much as is added. A
+/// refusal leaves graph and caches as they were.
 ///
 /// Source: `append` of wit-parser 0.263.0.
 pub fn append_with(

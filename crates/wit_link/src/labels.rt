@@ -8,8 +8,8 @@ use std::alloc::Global;
 use wit_data::IncludeName;
 use wit_graph_data::ResolveResult;
 
-/// The label as a renaming of an `include` makes it, or None where the renaming is of another label. The only refusal is
-/// want of memory (28).
+/// The label that the renaming of an `include` makes of a label. None if the renaming is of another label. The only
+/// error is want of memory.
 ///
 /// Source: `rename` of wit-parser 0.263.0.
 pub fn rename(alloc: Global, label: &str, name: &IncludeName) -> ResolveResult<Option<String>>

@@ -15,10 +15,10 @@ use wit_data::{Items, PackageId, UnresolvedPackage};
 use wit_graph_data::{Features, Graph, ResolveResult};
 use wit_remap::Mark;
 
-/// Adds `is_shaped` packages to a valid graph under features, one after another, each with its spans moved by so many
-/// positions as stand beside it, and answers their ids in order. The graph stays valid.
+/// Adds `is_shaped` packages to a valid graph, one after another, and answers their ids in order. The spans of each
+/// move by the offset beside it. The graph stays valid.
 ///
-/// Refused where one of them is, as `append` says, and for memory (28); the graph is then as before.
+/// Refused if `append` refuses one of them, and for memory (28). A refusal leaves the graph as it was.
 pub fn append_all(
     alloc: Global,
     graph: &mut Graph,
@@ -39,8 +39,8 @@ pub fn append_all(
     append_all_with(alloc, graph, &mut caches, features, packages)
 }
 
-/// As `append_all`, with caches of the graph, which become those of the new graph: so it costs what is added. After a
-/// refusal graph and caches are as before.
+/// As `append_all`, with caches of the graph, which become those of the new graph. So it costs as much as is added. A
+/// refusal leaves graph and caches as they were.
 pub fn append_all_with(
     alloc: Global,
     graph: &mut Graph,

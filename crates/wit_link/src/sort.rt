@@ -13,13 +13,11 @@ use wit_data::{Items, UnresolvedPackage};
 use wit_digraph::{find_cycle, in_order, post_order_of_roots};
 use wit_graph_data::ResolveResult;
 
-/// The packages, each with the offset by which its spans move, in the order in which they are
-/// added: each after those that it depends on, and else in the order of their names. Each has a
-/// span for each package that it names things of, as one that has its shape does.
+/// The packages in the order in which they are added, each with its offset for spans: dependencies first, else in the
+/// order of their names. Each has a span for each package that it names, as packages with their shape do.
 ///
-/// Refused where two have one name (5), where packages depend on each other, or one on itself (6),
-/// where a span that would be told ends past 4294967295 (27), and for want of memory (28). Each
-/// package is moved, and let go after a refusal.
+/// Refused if two have one name (5), if packages depend on each other or one on itself (6), if the span of an error
+/// ends past 4294967295 (27), and for memory (28). A refusal drops the packages.
 ///
 /// Source: `sort_unresolved_packages` of wit-parser 0.263.0.
 pub fn sort_groups(

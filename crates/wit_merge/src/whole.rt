@@ -42,8 +42,8 @@ pub struct MergedGraph {
     pub remap: Remap,
 }
 
-/// A valid graph with another valid one, which is consumed: see `merged_copy`, which leaves both as they are. On a refusal
-/// the graph is as before, and the other is gone.
+/// Merges another valid graph, which is consumed, into a valid graph: see `merged_copy`, which leaves both as they are.
+/// A refusal leaves the graph as it was; the other is gone.
 ///
 /// Source: `merge` of wit-parser 0.263.0.
 pub fn merge(
@@ -70,13 +70,13 @@ pub fn merge(
     Ok((merged_graph, remap))
 }
 
-/// A copy of a valid graph with another valid one: what is matched is made one, all else comes behind what is there,
-/// its spans moved by so many positions, and all worlds are elaborated. The copy is valid.
+/// Merges another valid graph into a copy of a valid graph. Packages, worlds, interfaces and types of one name become
+/// one; all else comes behind what is there, its spans moved by an offset; and all worlds are elaborated. The copy is
+/// valid.
 ///
-/// Refused where the exports of a world would be in conflict (4), where a package would depend on itself (6) or an
-/// interface (22), where two stabilities that would be joined are known and differ (8), where the result of a
-/// function that moves holds a borrow (15), where what matches disagrees (24), where a span of the other would pass
-/// 4294967295 (27), and for memory (28).
+/// Refused if the exports of a world would be in conflict (4), if a package (6) or an interface (22) would depend on
+/// itself, if two known stabilities that meet differ (8), if a function that comes has a borrow in its result (15), if
+/// things of one name disagree (24), if a span of the other would pass 4294967295 (27), and for memory (28).
 ///
 /// Source: `merge` of wit-parser 0.263.0.
 pub fn merged_copy(
@@ -101,9 +101,9 @@ pub fn merged_copy(
     merged_by(alloc, graph, other, &matches, offset)
 }
 
-/// What is matched of two valid graphs that agree: refused where what matches disagrees (24), where two stabilities that
-/// would be joined are known and differ (8), where a span of the other would pass 4294967295 (27), and for memory (28).
-/// It costs what the other graph costs.
+/// The matches of two valid graphs that agree. Refused if things of one name disagree (24), if two known stabilities
+/// that meet differ (8), if a span of the other would pass 4294967295 (27), and for memory (28). It costs as much as
+/// the other graph.
 pub fn agreed_matches(
     alloc: Global,
     graph: &Graph,

@@ -79,10 +79,9 @@ pub fn name_canonicalized_world_key(
     }
 }
 
-/// What the canonical id text of an interface leaves out of the version of its package: what
-/// remains of the version's text after that of its track. None where there is no version or nothing
-/// remains, or the interface has no package or isn't there. The only refusal is want of memory
-/// (28).
+/// The part of the package's version that the canonical id text of an interface leaves out: the rest of the version's
+/// text behind its track. None if there is no version, if nothing is left out, and if the interface has no package or
+/// isn't there. The only refusal is want of memory (28).
 ///
 /// Source: `version_suffix_of` of wit-parser 0.263.0.
 pub fn version_suffix_of(

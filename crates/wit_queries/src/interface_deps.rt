@@ -70,9 +70,8 @@ pub fn interface_direct_deps(graph: &Graph, id: InterfaceId) -> InterfaceDirectD
     }
 }
 
-/// Whether no interface comes back to itself along its uses, and each use is of an interface that is there: what a
-/// closure over uses, and elaborating all worlds of a graph, ask for. It is told of any graph, also of one without
-/// worlds. The only error is want of memory.
+/// Whether uses of interfaces have no cycle and each used interface is there, as a closure over uses and the
+/// elaboration of all worlds ask. Any graph may be asked, also one without worlds. The only error is want of memory.
 pub fn are_uses_acyclic(alloc: Global, graph: &Graph) -> Result<bool, AllocError>
     ensures { IfOk result
         (λ acyclic. IsTrue acyclic ↔ IsAcyclic (uses_of graph.now.types graph.now.interfaces)) }

@@ -169,9 +169,8 @@ fn package_row(alloc: Global, graph: &Graph, id: PackageId) -> Result<Items<usiz
     Ok(row)
 }
 
-/// All packages by their ids, but each after those that it depends on, in order, and each once.
-/// Packages depend on packages that are there, and none on itself, through whatever others, as in a
-/// valid graph. The only refusal is want of memory (28).
+/// All packages, each once and after those that it depends on, else in the order of their ids. Packages depend on
+/// packages that are there, and none on itself, as in a valid graph. The only refusal is want of memory (28).
 ///
 /// Source: `topological_packages` of wit-parser 0.263.0.
 pub fn topological_packages(alloc: Global, graph: &Graph) -> ResolveResult<Vec<PackageId>>

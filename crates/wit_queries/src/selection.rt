@@ -16,13 +16,13 @@ use wit_data::{
 };
 use wit_graph_data::{Cause, Graph, Package, ResolveError, ResolveErrorKind, ResolveResult};
 
-/// The world that a text names: a name in the one main package, or `namespace:package/name` with an optional
-/// `@version`. Without a text it is the only world of the one main package.
+/// The world that a text names: by its name in the only main package, or as `namespace:package/name` with an optional
+/// `@version`. Without a text it is the only world of the only main package.
 ///
-/// The main packages are ids of the graph; one that isn't there is told as if there were none. Refused where the text
-/// is no use path; where there is no main package, or several and the text names no package; where the package of the
-/// text isn't there, or is there at several versions and the text names none; and where there is no such world, or
-/// more than one (26). Also refused for memory (28).
+/// The main packages are ids of the graph; one that isn't there counts as if there were none. Refused (26) if the text
+/// is no use path, if there is no main package, if there are several and the text names no package, if the text's
+/// package isn't there, or is there at several versions and the text has none, and if there is no such world or more
+/// than one. Also refused for memory (28).
 ///
 /// Source: `select_world` of wit-parser 0.263.0.
 pub fn select_world(

@@ -28,8 +28,8 @@ fn is_number(ty: Type_) -> bool
     }
 }
 
-/// By flags that tell of which types all bits are valid, one for each type by its id, whether any bits are a value
-/// of this one: of a number, or of a type whose flag is there and on. It takes no memory.
+/// Whether all bits are valid values of a type, which is a number or has its flag in `flags`, one for each type by its
+/// id. It takes no memory.
 ///
 /// Source: `all_bits_valid` of wit-parser 0.263.0.
 pub fn is_valid_by(flags: &[bool], ty: Type_) -> bool

@@ -2,6 +2,7 @@ mod EmptyGraph
 mod FilesAfter
 mod Grouped
 mod KeptRows
+mod ListedKeys
 mod Merged
 mod NamesInOrder
 mod OneOrder

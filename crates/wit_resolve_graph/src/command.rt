@@ -66,8 +66,8 @@ pub enum Reply {
     Refused(ResolveError),
 }
 
-/// Runs commands in order, and answers a reply to each. Room for all replies is made first; where there
-/// is no memory for it (28), nothing has changed. Any other refusal is a reply.
+/// Runs commands in order and answers a reply to each; a refusal is a reply. It first makes room for all replies: if
+/// there is no memory for it (28), nothing has changed.
 ///
 /// The packages of a `PushGroups` have their shape, as `Resolve::push_groups` asks.
 pub fn run(

@@ -15,15 +15,14 @@ use wit_data::{MapFault, PackageId, SourceMap, Span, Text, UnresolvedPackageGrou
 use wit_graph_data::{ResolveError, ResolveErrorKind};
 
 impl Resolve {
-    /// Adds what a parse makes of the file of this path with these contents, as `push_group` does, and answers the
-    /// main package's id. The parse is given the source map of this file alone. It can always be called, and each
-    /// group that it may make of the file has its shape, as `is_group_shaped` tells.
+    /// Parses the file of this path with these contents, adds the group as `push_group` does, and answers the main
+    /// package's id. The parse gets a source map of this file alone. It can always be called, and each group that it
+    /// may make of the file has its shape (`is_group_shaped`).
     ///
-    /// Refused as `push_group`, where the file would pass 4294967295 (27), and for memory, also where the parse wants
-    /// it (28). Where the parse can't read the text, its files go to the end of the sources and its span is moved
-    /// with them; where they or the span don't fit there it is 27, and for memory 28, and no file is added. The
-    /// packages are as before after a fault, and so are the sources but for files that are added so or stay as
-    /// `push_group` says.
+    /// Refused as `push_group` is, if the file would pass 4294967295 (27), and for memory, also if the parse wants it
+    /// (28). If the parse can't read the text, its files come to the end of the sources and its span moves with them;
+    /// if they or the span don't fit there the refusal is 27, for memory 28, and no file is added. A fault leaves the
+    /// packages as they were, and the sources but for such files.
     ///
     /// Source: `push_source` of wit-parser 0.263.0; that a parse comes in is a rule of this project.
     pub fn push_source<F: FnOnce(SourceMap) -> Result<UnresolvedPackageGroup, ParseFault> + Drop>(

@@ -25,8 +25,7 @@ use wit_queries::valid_bits::is_valid_by;
 
 /// Names.
 impl Resolve {
-    /// The world of a name in the package of a name; None where either isn't there. It is a world of this graph. It
-    /// takes no memory.
+    /// The world of this name in the package of that name. None if either isn't there. It takes no memory.
     ///
     /// Source: `Resolve::package_names` and `Package::worlds` of wit-parser 0.263.0.
     pub fn world_named(&self, owner: &PackageName, name: &str) -> Option<WorldId>
@@ -41,8 +40,8 @@ impl Resolve {
 
 /// Dependencies.
 impl Resolve {
-    /// Of an alias of a type that an interface owns, which isn't the alias's own owner, that interface;
-    /// else None. It takes no memory.
+    /// The interface that an alias uses: the one that owns the alias's type, if it isn't the alias's own owner. None of
+    /// any other type. It takes no memory.
     ///
     /// Source: `type_interface_dep` of wit-parser 0.263.0.
     pub fn type_interface_dep(&self, id: TypeId) -> Option<InterfaceId>
@@ -76,8 +75,8 @@ impl Resolve {
         package_direct_deps(self.graph(), id)
     }
 
-    /// All packages by their ids, but each after those that it depends on, in order, and each once. The
-    /// only refusal is want of memory (28).
+    /// All packages, each once and after those that it depends on, else in the order of their ids. The only refusal is
+    /// want of memory (28).
     ///
     /// Source: `topological_packages` of wit-parser 0.263.0.
     pub fn topological_packages(&self, alloc: Global) -> ResolveResult<Vec<PackageId>>
@@ -93,8 +92,8 @@ impl Resolve {
 
 /// Canonical names, with the text of the track in the place of the version.
 impl Resolve {
-    /// The canonical id text of an interface, None where it has no name or isn't there. The only
-    /// refusal is want of memory (28).
+    /// The canonical id text of an interface. None if it has no name or isn't there. The only refusal is want of memory
+    /// (28).
     ///
     /// Source: `canonicalized_id_of` of wit-parser 0.263.0.
     pub fn canonicalized_id_of(
@@ -110,8 +109,8 @@ impl Resolve {
         canonicalized_id_of(alloc, self.graph(), id)
     }
 
-    /// The canonical id text of an interface or a world of this name in a package, empty where the
-    /// package isn't there. The only refusal is want of memory (28).
+    /// The canonical id text of an interface or a world of this name in a package. Empty if the package isn't there.
+    /// The only refusal is want of memory (28).
     ///
     /// Source: `canonicalized_id_of_name` of wit-parser 0.263.0.
     pub fn canonicalized_id_of_name(
@@ -127,8 +126,8 @@ impl Resolve {
         canonicalized_id_of_name(alloc, self.graph(), package, name)
     }
 
-    /// What names a key of a world: a label as it stands, an interface by its canonical id text, which
-    /// is empty where the interface has none. The only refusal is want of memory (28).
+    /// The name of a world's key: a label as it stands, or the canonical id text of an interface, which is empty if the
+    /// interface has none. The only refusal is want of memory (28).
     ///
     /// Source: `name_canonicalized_world_key` of wit-parser 0.263.0.
     pub fn name_canonicalized_world_key(
@@ -144,9 +143,8 @@ impl Resolve {
         name_canonicalized_world_key(alloc, self.graph(), key)
     }
 
-    /// What the canonical id text of an interface leaves out of the version of its package; None where
-    /// there is no version, where nothing is left out, and where the interface isn't there. The only
-    /// refusal is want of memory (28).
+    /// The part of the package's version that the canonical id text of an interface leaves out. None if there is no
+    /// version, if nothing is left out, and if the interface isn't there. The only refusal is want of memory (28).
     ///
     /// Source: `version_suffix_of` of wit-parser 0.263.0.
     pub fn version_suffix_of(&self, alloc: Global, id: InterfaceId) -> ResolveResult<Option<String>>
@@ -161,8 +159,7 @@ impl Resolve {
 
 /// Entries of worlds.
 impl Resolve {
-    /// The interface with a name that stands under a label, None of any other entry. It takes no
-    /// memory.
+    /// The named interface that stands under a label. None of any other entry. It takes no memory.
     ///
     /// Source: `implements_interface` of wit-parser 0.263.0.
     pub fn implements_interface(&self, key: &WorldKey, item: &WorldItem) -> Option<InterfaceId>
@@ -171,8 +168,8 @@ impl Resolve {
         implements_interface(self.graph(), key, item)
     }
 
-    /// The external id of an entry: its own, or that of its function or type; None where it has none.
-    /// The only refusal is want of memory (28).
+    /// The external id of an entry: its own, or that of its function or type. None if it has none. The only refusal is
+    /// want of memory (28).
     ///
     /// Source: `external_id_value` of wit-parser 0.263.0.
     pub fn external_id_value(
@@ -190,8 +187,8 @@ impl Resolve {
 
 /// Values.
 impl Resolve {
-    /// Whether any bits are a value of the type: of a number, of a handle, and of an alias, a list of
-    /// fixed length, a record or a tuple whose parts all are such. It takes no memory.
+    /// Whether all bits are valid values of a type: of a number, a handle, and an alias, a fixed-length list, a record
+    /// or a tuple of such types alone. It takes no memory.
     ///
     /// Source: `all_bits_valid` of wit-parser 0.263.0.
     pub fn all_bits_valid(&self, ty: Type_) -> bool

@@ -37,9 +37,10 @@ use wit_transform::{exportize_answered_with, exportize_with, importize_with};
 use wit_validity::is_valid;
 use wit_values::try_clone_four;
 
-/// Packages whose names are resolved: a valid graph, the features that are on, the sources, and the rule by which
-/// versions stand on one track. Beside the graph it keeps which interfaces use which, so that a push costs what it
-/// adds, and of which types all bits are valid.
+/// Packages whose names are resolved: a valid graph, the features that are on, the sources, and the rule that puts
+/// versions on one track.
+///
+/// It also keeps which interfaces use which, so that a push costs what it adds, and for which types all bits are valid.
 ///
 /// Source: `Resolve` of wit-parser 0.263.0.
 pub struct Resolve {
@@ -66,7 +67,7 @@ impl Model for Resolve {
 }
 
 impl Resolve {
-    /// Nothing: no package, no feature, no file, and the published rule of tracks. It takes no memory.
+    /// An empty `Resolve`: no package, no feature, no file, and the published rule of tracks. It takes no memory.
     ///
     /// Source: `Resolve::new` of wit-parser 0.263.0.
     pub fn new(alloc: Global) -> Resolve
@@ -81,7 +82,7 @@ impl Resolve {
         }
     }
 
-    /// The `Resolve` of a graph with what stands beside it; None where the graph isn't valid: see `is_valid`. The only
+    /// Makes a `Resolve` of a graph and what stands beside it. None if the graph isn't valid (`is_valid`). The only
     /// refusal is want of memory (28).
     pub fn of_graph(
         alloc: Global,
@@ -123,8 +124,7 @@ impl Resolve {
         &self.graph
     }
 
-    /// Whether the graph is valid: see `is_valid`. It is true of every `Resolve`. The only refusal is want of memory
-    /// (28).
+    /// Whether the graph is valid (`is_valid`), as it is in every `Resolve`. The only refusal is want of memory (28).
     ///
     /// Source: `assert_valid` of wit-parser 0.263.0.
     pub fn assert_valid(&self, alloc: Global) -> ResolveResult<bool>
@@ -206,14 +206,14 @@ impl Resolve {
         &self.source_map
     }
 
-    /// The rule by which versions stand on one track.
+    /// The rule that puts versions on one track.
     pub fn track_rule(&self) -> TrackRule
         ensures { result ≡ self.now.track_rule }
     {
         self.track_rule
     }
 
-    /// Of which types all bits are valid, a flag for each.
+    /// A flag for each type: whether all bits are valid values of it.
     pub(crate) fn valid_bits(&self) -> &[bool]
         ensures { AreValidBitsOf self.now.graph.types result.now }
     {
@@ -222,7 +222,7 @@ impl Resolve {
 }
 
 impl Resolve {
-    /// Turns a feature on. One that is on stays so. Refused for memory (28); nothing has changed then.
+    /// Turns a feature on; one that is on stays so. Refused only for memory (28); then nothing changes.
     ///
     /// Source: `Resolve::features` of wit-parser 0.263.0.
     pub fn add_feature(&mut self, alloc: Global, name: &str) -> ResolveResult<()>
@@ -235,7 +235,7 @@ impl Resolve {
         Ok(())
     }
 
-    /// Turns all features on, named or not, or leaves those that are named. It takes no memory.
+    /// Turns all features on, or leaves only the named ones on. It takes no memory.
     ///
     /// Source: `Resolve::all_features` of wit-parser 0.263.0.
     pub fn set_all_features(&mut self, all: bool)
@@ -244,7 +244,7 @@ impl Resolve {
         self.features.all = all;
     }
 
-    /// Sets the rule by which versions stand on one track. It takes no memory.
+    /// Sets the rule that puts versions on one track. It takes no memory.
     pub fn set_track_rule(&mut self, rule: TrackRule)
         ensures { self.new ≡ record self.old { track_rule = rule } }
     {
@@ -253,9 +253,10 @@ impl Resolve {
 }
 
 impl Resolve {
-    /// Puts the files of a source map at the end of this one's, and answers the position where they begin: a span in
-    /// them has to be moved so far. Refused where the end would pass 4294967295 (27), and for memory (28); nothing
-    /// has changed then.
+    /// Appends the files of a source map to this one's, and answers the position where they begin. Spans in these files
+    /// must move by that position.
+    ///
+    /// Refused if the end would pass 4294967295 (27), and for memory (28); then nothing changes.
     ///
     /// Source: `push_source_map` of wit-parser 0.263.0.
     pub fn push_source_map(&mut self, alloc: Global, source_map: SourceMap) -> ResolveResult<u32>
@@ -273,10 +274,9 @@ impl Resolve {
         Ok(self.source_map.append(alloc, source_map)?)
     }
 
-    /// Adds an `is_shaped` package, its spans moved by so many positions, and answers its id. The sources stay as
-    /// they are.
+    /// Adds an `is_shaped` package and answers its id. Its spans move by `span_offset` positions; the sources stay.
     ///
-    /// Refused as `wit_link::append` says (1 to 5, 7 to 18, 27), and for memory (28); nothing has changed then.
+    /// Refused as `wit_link::append` is (1 to 5, 7 to 18, 27), and for memory (28); then nothing changes.
     ///
     /// Source: `push` of wit-parser 0.263.0.
     pub fn push(
@@ -311,9 +311,8 @@ impl Resolve {
         )
     }
 
-    /// Adds the packages of an `is_group_shaped` group, the nested ones and the main one, and puts the group's files
-    /// at the end of the source map, and answers the main package's id: `push_groups` with this group alone, which
-    /// also says what is refused.
+    /// Adds the main and the nested packages of an `is_group_shaped` group, appends its files to the source map, and
+    /// answers the main package's id. It is `push_groups` with this group alone, which lists the refusals.
     ///
     /// Source: `push_group` of wit-parser 0.263.0.
     pub fn push_group(
@@ -331,14 +330,12 @@ impl Resolve {
         self.push_groups(alloc, group, Items::new(alloc))
     }
 
-    /// Adds the packages of `is_group_shaped` groups, each after those of them that it depends on and else in the
-    /// order of their names, and puts the groups' files at the end of the source map, the main group's first. Answers
-    /// the id of the main group's main package.
+    /// Adds the packages of `is_group_shaped` groups: dependencies first, else in the order of their names. Appends the
+    /// groups' files to the source map, those of the main group first. Answers the id of the main group's main package.
     ///
-    /// Refused where two packages have one name (5), where they depend on each other or one on itself (6), where the
-    /// files or a span that would be told end past 4294967295 (27), as `push` where one of them is, and for memory
-    /// (28). The packages are as before then. The files are at the end of the source map after a refusal, but after
-    /// 27 nowhere, and after 28 there or not.
+    /// Refused if two packages have one name (5), if packages depend on each other or one on itself (6), if the files
+    /// or the span of an error end past 4294967295 (27), if `push` refuses one of them, and for memory (28). A refusal
+    /// adds no package. It leaves the files in the source map, but after 27 none, and after 28 all or none.
     ///
     /// Source: `push_groups` of wit-parser 0.263.0.
     pub fn push_groups(
@@ -372,15 +369,16 @@ impl Resolve {
         pushed
     }
 
-    /// Makes one of this and another: packages match by name, and what matches is made one, all else comes behind what is
-    /// there, the spans of the other moved to the end of the source map, as its files are. The features and the rule of
-    /// tracks stay, those of the other are lost. Answers where the things of the other stand now.
+    /// Merges another `Resolve` into this one. Packages, worlds, interfaces and types of one name become one; all else
+    /// comes behind what is there. The files of the other come to the end of the source map, and its spans move with
+    /// them. Features and the rule of tracks stay; those of the other are lost. Answers where the things of the other
+    /// are now.
     ///
-    /// Refused where two stabilities that would be joined are known and differ (8), where a function that comes holds a
-    /// `borrow` in its result (15), where what matches disagrees (24), where afterwards an interface would depend on
-    /// itself (22), a package would (6), or the exports of a world would be in conflict (4), where a position would pass
-    /// 4294967295 (27), and for memory (28). The graph is as before then. The files of the other are at the end of the
-    /// source map after a refusal, but after 27 nowhere, and after 28 there or not.
+    /// Refused if two known stabilities that meet differ (8), if a function that comes has a `borrow` in its result
+    /// (15), if things of one name disagree (24), if an interface (22) or a package (6) would depend on itself, if the
+    /// exports of a world would be in conflict (4), if a position would pass 4294967295 (27), and for memory (28). A
+    /// refusal leaves the graph as it was. It leaves the other's files in the source map, but after 27 none, and after
+    /// 28 all or none.
     ///
     /// Source: `merge` of wit-parser 0.263.0.
     pub fn merge(&mut self, alloc: Global, mut other: Resolve) -> ResolveResult<Remap>
@@ -401,13 +399,13 @@ impl Resolve {
         merged
     }
 
-    /// The world that a text names: a name in the one main package, or `namespace:package/name` with an optional
-    /// `@version`. Without a text it is the only world of the one main package. It is a world of this graph.
+    /// The world that a text names: by its name in the only main package, or as `namespace:package/name` with an
+    /// optional `@version`. Without a text it is the only world of the only main package.
     ///
-    /// The main packages are ids of this graph; one that isn't there is told as if there were none. Refused where the
-    /// text is no use path; where there is no main package, or several and the text names no package; where the
-    /// package of the text isn't there, or is there at several versions and the text names none; and where there is
-    /// no such world, or more than one (26). Also refused for memory (28).
+    /// The main packages are ids of this graph; one that isn't there counts as if there were none. Refused (26) if the
+    /// text is no use path, if there is no main package, if there are several and the text names no package, if the
+    /// text's package isn't there, or is there at several versions and the text has none, and if there is no such world
+    /// or more than one. Also refused for memory (28).
     ///
     /// Source: `select_world` of wit-parser 0.263.0.
     pub fn select_world(
@@ -426,8 +424,8 @@ impl Resolve {
         select_world(alloc, self.graph(), main_packages, world)
     }
 
-    /// The id text of an interface, None where it has no name or isn't there: see `Graph::id_of`. The only refusal is
-    /// want of memory (28).
+    /// The id text of an interface (`Graph::id_of`). None if it has no name or isn't there. The only refusal is want of
+    /// memory (28).
     ///
     /// Source: `id_of` of wit-parser 0.263.0.
     pub fn id_of(&self, alloc: Global, id: InterfaceId) -> ResolveResult<Option<String>>
@@ -439,8 +437,8 @@ impl Resolve {
         self.graph.id_of(alloc, id)
     }
 
-    /// The id text of an interface or a world of this name in a package, empty where the package isn't there: see
-    /// `Graph::id_of_name`. The only refusal is want of memory (28).
+    /// The id text of an interface or a world of this name in a package (`Graph::id_of_name`). Empty if the package
+    /// isn't there. The only refusal is want of memory (28).
     ///
     /// Source: `id_of_name` of wit-parser 0.263.0.
     pub fn id_of_name(&self, alloc: Global, package: PackageId, name: &str) -> ResolveResult<String>
@@ -465,8 +463,8 @@ impl Resolve {
 }
 
 impl Resolve {
-    /// Makes the exports of a world of this graph its imports: see `wit_unite::importize`, which says
-    /// what is refused (19, 20, 28). After a refusal nothing has changed.
+    /// Makes the exports of a world of this graph its imports. `wit_unite::importize` lists the refusals (19, 20, 28);
+    /// after one nothing has changed.
     ///
     /// Source: `importize` of wit-parser 0.263.0.
     pub fn importize(
@@ -498,9 +496,9 @@ impl Resolve {
         )
     }
 
-    /// Makes the imports of a world of this graph its exports, those for which the filter answers true, or all without
-    /// one: see `wit_unite::exportize`, which says what is refused (4, 20, 21, 28). The filter can always be called.
-    /// After a refusal nothing has changed.
+    /// Makes imports of a world of this graph its exports: those for which the filter answers true, or all without a
+    /// filter. The filter can always be called. `wit_unite::exportize` lists the refusals (4, 20, 21, 28); after one
+    /// nothing has changed.
     ///
     /// Source: `exportize` of wit-parser 0.263.0.
     pub fn exportize<F: Fn(&WorldKey, &WorldItem) -> bool + Drop>(
@@ -572,9 +570,8 @@ impl Resolve {
         )
     }
 
-    /// Merges the imports of a world of this graph by tracks, with the rule that is in force: see
-    /// `wit_unite::merge_by_track`, which says what is refused (4, 6, 22, 23, 25, 28). After a refusal nothing
-    /// has changed.
+    /// Merges the imports of a world of this graph by tracks, with the rule in force. `wit_unite::merge_by_track` lists
+    /// the refusals (4, 6, 22, 23, 25, 28); after one nothing has changed.
     ///
     /// Source: `merge_world_imports_based_on_semver` of wit-parser 0.263.0.
     pub fn merge_world_imports_based_on_semver(
@@ -603,7 +600,7 @@ impl Resolve {
     }
 }
 
-/// Whether a call is refused since a position would pass 4294967295.
+/// Whether a call is refused because a position would pass 4294967295.
 fn is_offset_overflow<T>(answer: &ResolveResult<T>) -> bool
     ensures { IsTrue result ↔ (answer.now ≡ Err OffsetOverflow) }
 {

@@ -1,20 +1,19 @@
 //! The commands that change a world.
 ghost use Rattle.std.specs.Prelude.{◌≡◌, ◌⊎◌, ◌<◌, IfErr, IfOk, OnErr, OnOk, length, string_bytes};
-ghost use Rattle.std.specs.List.{list_any};
 ghost use Rattle.std.specs.Option.{option_map};
-ghost use Rattle.std.specs.Str.{bytes_eq};
 ghost use Rattle.wit_graph_data.specs.declared.error_kind.ResolveErrorKind.{ResolveErrorKind};
 ghost use Rattle.wit_graph_data.specs.declared.error_kind.ResolveErrorKind.TheVariants.{OutOfMemory};
 ghost use Rattle.wit_resolve_graph.specs.Step.{Step, answers_at};
 ghost use Rattle.wit_resolve_graph.specs.declared.command.Command.TheVariants as command;
 ghost use Rattle.wit_transform.specs.Transformed.{IsExportizeCause, exportized, transformed};
-ghost use Rattle.wit_resolve_graph.specs.steps.Parts.{is_listed_key, listed_answers};
+ghost use Rattle.wit_resolve_graph.specs.steps.Parts.{HaveSameTexts, ListAlike, is_listed_key, listed_answers};
 
 use crate::command::Reply;
 use crate::resolve::Resolve;
-use std::alloc::Global;
+use std::alloc::{AllocError, Global};
 use wit_data::{Items, PackageName, Table, Text, WorldId, WorldItem, WorldKey};
 use wit_graph_data::{Graph, ResolveResult};
+use wit_values::NameSet;
 
 /// The text of a name, where there is one.
 fn out_name(out: Option<Text>) -> Option<String>
@@ -45,23 +44,32 @@ pub(crate) fn importize(
     }
 }
 
-/// Whether a text is among keys.
-fn is_among(keys: &Items<Text>, text: &str) -> bool
-    ensures { result ≡ list_any (bytes_eq text.now) keys.now }
+/// The texts of a list, each once, to look them up: in the list each look-up would cost its length.
+fn set_of(alloc: Global, texts: &Items<Text>) -> Result<NameSet, AllocError>
+    ensures { IfOk result (λ set. HaveSameTexts set texts.now) }
 {
-    for key in keys.as_slice() {
-        if text == key.as_str() {
-            return true;
-        }
+    let mut set = NameSet::new(alloc);
+    for text in texts.as_slice() {
+        set.insert(alloc, text.as_str())?;
     }
-    false
+    Ok(set)
+}
+
+/// The listed keys to look up; none without a list.
+fn listed_keys(alloc: Global, keys: &Option<Items<Text>>) -> Result<Option<NameSet>, AllocError>
+    ensures { IfOk result (λ listed. ListAlike listed keys.now) }
+{
+    match keys {
+        Some(keys) => Ok(Some(set_of(alloc, keys)?)),
+        None => Ok(None),
+    }
 }
 
 /// Whether what names a key is listed; true without a list.
 fn is_listed(
     alloc: Global,
     graph: &Graph,
-    keys: &Option<Items<Text>>,
+    keys: &Option<NameSet>,
     key: &WorldKey,
 ) -> ResolveResult<bool>
     ensures ok { IfOk result (λ listed. listed ≡ is_listed_key graph.now keys.now key.now) }
@@ -70,7 +78,7 @@ fn is_listed(
     match keys {
         Some(keys) => {
             let name = graph.name_world_key(alloc, key)?;
-            Ok(is_among(keys, name.as_str()))
+            Ok(keys.contains(name.as_str()))
         }
         None => Ok(true),
     }
@@ -81,7 +89,7 @@ fn key_answers(
     alloc: Global,
     graph: &Graph,
     imports: &Table<WorldKey, WorldItem>,
-    keys: &Option<Items<Text>>,
+    keys: &Option<NameSet>,
 ) -> ResolveResult<Items<bool>>
     ensures ok { IfOk result (λ answers. answers ≡ listed_answers graph.now keys.now imports.now) }
     ensures memory { IfErr result (λ kind. kind ≡ OutOfMemory) }
@@ -104,9 +112,10 @@ fn world_answers(
     ensures ok { IfOk result (λ answers. answers ≡ answers_at resolve.now keys.now world) }
     ensures memory { IfErr result (λ kind. kind ≡ OutOfMemory) }
 {
+    let listed = listed_keys(alloc, keys)?;
     let graph = resolve.graph();
     let current = graph.worlds.at(world.index());
-    key_answers(alloc, graph, &current.imports, keys)
+    key_answers(alloc, graph, &current.imports, &listed)
 }
 
 /// Exports the imports of a world that are listed.

@@ -19,7 +19,8 @@ use Rattle.wit_script_package.specs.Draft.{as_group, new_draft}
 use Rattle.wit_script_package.specs.Lines.{with_line}
 use Rattle.wit_script_package.specs.steps.Pushable.{IsPushable}
 use Rattle.wit_script_package.specs.declared.draft.Draft.{Draft}
-use Rattle.wit_script.specs.Script.{mentions_ahead, after_first, after_line, after_statement_in, new_reading, reading_before, with_asked, with_begun, with_current, with_groups, with_package, with_package_line, with_push, with_request, with_statement}
+use Rattle.wit_script.specs.Script.{mentions_ahead, after_first, after_line, after_statement_in, new_reading, reading_before, with_groups, with_package, with_package_line, with_push, with_request}
+use Rattle.wit_script.specs.steps.Parts.{with_asked, with_begun, with_current, with_statement}
 use Rattle.wit_script.specs.Ready.{other_after}
 use Rattle.wit_script.specs.declared.reader.Reading.{Reading}
 use Rattle.wit_script.specs.steps.BuiltReading.{AreBuilt, AreShapedIfPushable}

@@ -1,14 +1,22 @@
 -- A line ahead that mentions nothing.
-use Rattle.std.proofs.Common.{◌≡◌, ◌+◌, ℕ, List, Option, None, Some, Result, Ok, Err, length, refl, sym, ap, ◌∙◌, ◌++◌, IfOk}
+use Rattle.std.proofs.Common.{◌≡◌, ◌+◌, ℕ, List, [], Option, None, Some, Result, Ok, Err, length, refl, sym, ap, ◌∙◌, ◌++◌, IfOk}
+use Rattle.std.specs.Option.{option_map_or}
+use Rattle.wit_data.specs.declared.stability.Stability.{Stability}
+use Rattle.wit_script_lines.specs.declared.package_line.PackageLine.{PackageLine}
 use Rattle.wit_script_package.specs.Draft.{span_after}
+use Rattle.wit_script_package.specs.Mention.{mentions_of}
 use Rattle.wit_script_package.specs.steps.Mention.{MentionsNothing}
 use Rattle.wit_script_package.specs.Naming.{OptionalSpan}
 use Rattle.wit_script_package.specs.declared.mention.Mention.{Mention}
 use Rattle.wit_script_lines.specs.declared.statement.Statement.{Statement}
 use Rattle.wit_script_lines.specs.declared.statement.Statement.TheVariants as says
-use Rattle.wit_script.specs.Script.{mentions_at_line, mentions_past, mentions_with}
+use Rattle.wit_script.specs.Script.{mentions_past, mentions_with}
 use Rattle.wit_script.specs.steps.Script.{mentions_then}
 use Rattle.wit_script.specs.declared.ahead.Ahead.{Ahead}
+
+-- what a line of the package mentions, where it fits into its file, and the lines after it
+abbrev mentions_at_line : PackageLine → Stability → ℕ → (ℕ → List Mention) → Option OptionalSpan → List Mention
+mentions_at_line said gate next after span = option_map_or (λ (s : OptionalSpan). mentions_of said gate s ++ after next) span []
 
 module _ (at : ℕ) (line : List ℕ) where
   past-nothing : (after : ℕ → List Mention) (said : Option (Option Statement)) → MentionsNothing said → mentions_with at line after said ≡ mentions_past (at + length line + 1) after (span_after at line)

@@ -1,5 +1,5 @@
 -- Answers that are told, or their refusals.
-use Rattle.std.proofs.Common.{◌≡◌, ℕ, List, Option, Some, Result, Ok, Err, String, string_bytes, inl, inr, ap, ◌∙◌}
+use Rattle.std.proofs.Common.{◌≡◌, ℕ, List, [], ◌∷◌, Option, Some, Result, Ok, Err, String, string_bytes, inl, inr, ap, ◌∙◌}
 use Rattle.std.specs.Prelude.{IfErr, IfOk}
 use Rattle.std.specs.declared.alloc.Global.{Global}
 use Rattle.wit_graph_data.specs.declared.graph.Graph.{Graph}
@@ -7,7 +7,8 @@ use Rattle.wit_graph_data.specs.declared.error_kind.ResolveErrorKind.{ResolveErr
 use Rattle.wit_graph_data.specs.declared.error_kind.ResolveErrorKind.TheVariants.{OutOfMemory}
 use Rattle.wit_names.specs.declared.package_name.PackageName.{PackageName}
 use Rattle.wit_graph_data.specs.Named.{package_named, world_named}
-use Rattle.wit_script.specs.Answer.{AnswersPrint, AnswersSelect, IsChoice, refusal_text, selected_text}
+use Rattle.wit_queries.specs.Selection.{IsSelection}
+use Rattle.wit_script.specs.Answer.{AnswersPrint, AnswersSelect, refusal_text, selected_text}
 use Rattle.wit_script.specs.steps.Answer.{IsResultLine}
 use Rattle.wit_script.specs.World.{world_text_at}
 
@@ -21,8 +22,8 @@ printed_some g owner world id answer (Err e) there shown lacks said = tt
 
 -- a package that is there
 pub selected_some : {E : Type 0} (g : Graph) (owner : PackageName) (text : Option (List ℕ)) (id : ℕ) (answer : Result (String Global) ResolveErrorKind) (told : Result (String Global) E)
-    → package_named g owner ≡ Some id → IfOk answer (λ out. (world : ℕ) × IsChoice g id text (Ok world) × (string_bytes out ≡ selected_text g world))
-    → IfErr answer (λ kind. IsChoice g id text (Err kind))
+    → package_named g owner ≡ Some id → IfOk answer (λ out. (world : ℕ) × IsSelection g (id ∷ []) text (Ok world) × (string_bytes out ≡ selected_text g world))
+    → IfErr answer (λ kind. IsSelection g (id ∷ []) text (Err kind))
     → IfOk told (λ out. IsResultLine answer (string_bytes out)) → IfOk told (λ out. AnswersSelect g owner text (string_bytes out))
 selected_some g owner text id (Ok out) (Ok line) there shown refused said = rw there (Ok shown.0, shown.1, said ∙ shown.2)
 selected_some g owner text id (Err kind) (Ok line) there shown refused said = rw there (Err kind, refused, said)

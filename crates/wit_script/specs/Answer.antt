@@ -1,5 +1,6 @@
--- What the commands of a script answer. Between `other` and `merge` commands work on a second graph.
-use Rattle.std.specs.Prelude.{◌≡◌, ◌⊎◌, ℕ, Bool, true, false, List, [], ◌∷◌, ◌++◌, Option, None, Some, Result, Ok, Err, slice_get, codes, MatchOption, decimal}
+-- How the commands of a script are carried out, and what is printed of them. Between `other` and `merge` commands work on a
+-- second graph.
+use Rattle.std.specs.Prelude.{◌≡◌, ◌⊎◌, ℕ, Bool, false, List, [], ◌∷◌, ◌++◌, Option, None, Some, Result, Ok, Err, slice_get, codes, is_some, unwrap_or, if◌then◌else◌, MatchOption, decimal}
 use Rattle.std.specs.Option.{option_map_or}
 use Rattle.wit_commands.specs.Change.{is_setting}
 use Rattle.wit_commands.specs.declared.change.Change.{Change}
@@ -13,11 +14,10 @@ use Rattle.wit_names.specs.PackageName.{package_name_text}
 use Rattle.wit_names.specs.declared.package_name.PackageName.{PackageName}
 use Rattle.wit_script_lines.specs.declared.request.Request.{Request}
 use Rattle.wit_script_lines.specs.declared.request.Request.TheVariants as request
-use Rattle.wit_queries.specs.Selection.{IsSelection}
+pub use Rattle.wit_queries.specs.Selection.{IsSelection}
 use Rattle.wit_graph_data.specs.Named.{package_named, world_named}
 use Rattle.wit_resolve_graph.specs.State.{State, new_state}
 use Rattle.wit_resolve_graph.specs.Step.{Step, command_of}
-use Rattle.wit_resolve_graph.specs.declared.command.Command.{Command}
 use Rattle.wit_resolve_graph.specs.declared.command.Command.TheVariants.{Merge}
 use Rattle.wit_resolve_graph.specs.declared.command.Reply.{Reply}
 use Rattle.wit_resolve_graph.specs.declared.command.Reply.TheVariants as reply
@@ -36,23 +36,13 @@ pushed_text g id =
     option_map_or (λ (p : Package). codes "pushed " ++ (package_name_text p.name ++ codes "\n"))
     (slice_get g.packages id) []
 
--- the line of a reply, in the state after it
-abbrev pub reply_text : Graph → Reply → List ℕ
-reply_text g reply.Done = codes "done\n"
-reply_text g (reply.Pushed id) = pushed_text g id
-reply_text g (reply.Merged remap) = codes "merged\n"
-reply_text g reply.NoWorld = codes "no world\n"
-reply_text g (reply.Refused kind) = refusal_text kind
-
--- the same, but nothing where the command is carried out
-abbrev pub line_unless_done : Graph → Reply → List ℕ
-line_unless_done g reply.Done = []
-line_unless_done g other = reply_text g other
-
--- the line of a reply to what sets something, or to what doesn't
-abbrev pub line_of : Bool → Graph → Reply → List ℕ
-line_of true = line_unless_done
-line_of false = reply_text
+-- the line of a reply, in the state after it; what sets something says nothing where it is carried out
+abbrev pub reply_text : Bool → Graph → Reply → List ℕ
+reply_text is_set g reply.Done = if is_set then [] else codes "done\n"
+reply_text is_set g (reply.Pushed id) = pushed_text g id
+reply_text is_set g (reply.Merged remap) = codes "merged\n"
+reply_text is_set g reply.NoWorld = codes "no world\n"
+reply_text is_set g (reply.Refused kind) = refusal_text kind
 
 -- ---- graphs
 
@@ -60,49 +50,32 @@ line_of false = reply_text
 abbrev pub only_first : State → Stage
 only_first state = record { first = state; second = None }
 
--- the graph on which commands work
-abbrev pub working_state_of : State → Option State → State
-working_state_of first None = first
-working_state_of first (Some second) = second
-
+-- the graph on which commands work: the second, where there is one
 abbrev pub working_state : Stage → State
-working_state stage = working_state_of stage.first stage.second
+working_state stage = unwrap_or stage.second stage.first
 
 -- the stage after that graph has become another
-abbrev pub with_working_state_of : State → Option State → State → Stage
-with_working_state_of first None new = only_first new
-with_working_state_of first (Some second) new = record { first = first; second = Some new }
-
 abbrev pub with_working_state : Stage → State → Stage
-with_working_state stage new = with_working_state_of stage.first stage.second new
+with_working_state stage new =
+    if is_some stage.second then record stage { second = Some new }
+    else record stage { first = new }
+
+-- a command is carried out on the graphs of a script: the reply, where it changes one of them, and the graphs after it.
+-- `merge` puts the second graph into the first, and it is no longer there; `other` opens a second one, which is empty
+abbrev pub CarriesOut : Stage → Request → Option Reply → Stage → Type 0
+CarriesOut before (request.Change change) (Some reply) after =
+    (new : State) × Step (working_state before) (command_of change) reply new
+    × (after ≡ with_working_state before new)
+CarriesOut before request.Merge (Some reply) after =
+    (second : State) × (new : State) × (before.second ≡ Some second)
+    × Step before.first (Merge second) reply new × (after ≡ only_first new)
+CarriesOut before request.Other None after =
+    (before.second ≡ None) × (after ≡ record before { second = Some new_state })
+CarriesOut before (request.Print owner world) None after = after ≡ before
+CarriesOut before (request.Select owner said) None after = after ≡ before
+CarriesOut before _ _ after = ⊥
 
 -- ---- answers
-
--- a command is carried out, and its reply is told so
-abbrev pub AnswersCommand : (Graph → Reply → List ℕ) → State → Command → List ℕ → State → Type 0
-AnswersCommand told before command text after =
-    (answer : Reply) × Step before command answer after × (text ≡ told after.graph answer)
-
--- a change of the graph on which commands work
-abbrev pub AnswersChange : Stage → Change → List ℕ → Stage → Type 0
-AnswersChange before change text after =
-    (new : State)
-    × AnswersCommand (line_of (is_setting change)) (working_state before) (command_of change) text
-    new
-    × (after ≡ with_working_state before new)
-
--- `merge`: the second graph goes into the first, and is no longer there
-abbrev pub AnswersMerge : Stage → Option State → List ℕ → Stage → Type 0
-AnswersMerge before None text after = ⊥
-AnswersMerge before (Some second) text after =
-    (new : State) × AnswersCommand reply_text before.first (Merge second) text new
-    × (after ≡ only_first new)
-
--- `other`: a second graph, which is empty
-abbrev pub AnswersOther : Stage → Option State → List ℕ → Stage → Type 0
-AnswersOther before None text after =
-    (text ≡ []) × (after ≡ record { first = before.first; second = Some new_state })
-AnswersOther before (Some second) text after = ⊥
 
 -- `print`: the world, or want of memory; `no world` where it isn't there
 abbrev pub AnswersPrint : Graph → PackageName → List ℕ → List ℕ → Type 0
@@ -119,35 +92,33 @@ abbrev pub choice_text : Graph → Result ℕ ResolveErrorKind → List ℕ
 choice_text g (Ok world) = selected_text g world
 choice_text g (Err kind) = refusal_text kind
 
--- what `select_world` chooses of a package, or says, or want of memory
-abbrev pub IsChoice : Graph → ℕ → Option (List ℕ) → Result ℕ ResolveErrorKind → Type 0
-IsChoice g id said choice = IsSelection g (id ∷ []) said choice
-
--- a choice that may be made of a package, told
-abbrev pub PrintsChoice : Graph → ℕ → Option (List ℕ) → List ℕ → Type 0
-PrintsChoice g id said text =
-    (choice : Result ℕ ResolveErrorKind) × IsChoice g id said choice × (text ≡ choice_text g choice)
-
--- `select`: a choice; `no package` where the package isn't there
+-- `select`: what `select_world` chooses of a package, or says, or want of memory; `no package` where the package isn't there
 abbrev pub AnswersSelect : Graph → PackageName → Option (List ℕ) → List ℕ → Type 0
 AnswersSelect g owner said text =
     MatchOption (package_named g owner) (text ≡ codes "no package\n")
-    (λ id. PrintsChoice g id said text)
+    (λ id. (choice : Result ℕ ResolveErrorKind) × IsSelection g (id ∷ []) said choice
+    × (text ≡ choice_text g choice))
 
--- the answer to a command, and the stage after it
+-- what is printed of a command, by its reply and the graph on which commands work after it
+abbrev pub IsAnswer : Graph → Request → Option Reply → List ℕ → Type 0
+IsAnswer g (request.Change change) (Some reply) text = text ≡ reply_text (is_setting change) g reply
+IsAnswer g request.Merge (Some reply) text = text ≡ reply_text false g reply
+IsAnswer g (request.Print owner world) reply text = AnswersPrint g owner world text
+IsAnswer g (request.Select owner said) reply text = AnswersSelect g owner said text
+IsAnswer g _ _ text = text ≡ []
+
+-- the answer to a command, and the graphs after it
 abbrev pub Answers : Stage → Request → List ℕ → Stage → Type 0
-Answers before (request.Change change) text after = AnswersChange before change text after
-Answers before request.Other text after = AnswersOther before before.second text after
-Answers before request.Merge text after = AnswersMerge before before.second text after
-Answers before (request.Print owner world) text after =
-    (after ≡ before) × AnswersPrint (working_state before).graph owner world text
-Answers before (request.Select owner said) text after =
-    (after ≡ before) × AnswersSelect (working_state before).graph owner said text
+Answers before command text after =
+    (reply : Option Reply) × CarriesOut before command reply after
+    × IsAnswer (working_state after).graph command reply text
 
--- the answers to commands, one after another
-abbrev pub AnswersAll : Stage → List Request → List ℕ → Stage → Type 0
-AnswersAll before [] text after = (text ≡ []) × (after ≡ before)
-AnswersAll before (command ∷ commands) text after =
-    (between : Stage) × (first : List ℕ) × (rest : List ℕ)
-    × Answers before command first between × AnswersAll between commands rest after
-    × (text ≡ first ++ rest)
+-- ---- commands, one after another
+
+-- the texts of some items, one after another, each from what there is after those before it
+abbrev pub InTurn : {S X : Type 0} → (S → X → List ℕ → S → Type 0) → S → List X → List ℕ → S
+    → Type 0
+InTurn Tells before [] text after = (text ≡ []) × (after ≡ before)
+InTurn {S} Tells before (x ∷ xs) text after =
+    (between : S) × (first : List ℕ) × (rest : List ℕ)
+    × Tells before x first between × InTurn Tells between xs rest after × (text ≡ first ++ rest)

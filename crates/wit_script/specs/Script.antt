@@ -1,5 +1,6 @@
 -- A script, line by line: what the lines make, which scripts are understood, what they ask, and which line of another is
 -- the first that isn't understood.
+use Rattle.std.specs.Option.{option_map_or}
 use Rattle.std.specs.Prelude.{◌≡◌, ◌⊎◌, ◌||◌, ℕ, zero, suc, ◌+◌, ◌<◌, Bool, false, List, [], ◌∷◌, ◌++◌, length, Option, Some, None, IsTrue, is_some, option_and_then, if◌then◌else◌, option_map, option_to_list}
 use Rattle.wit_names.specs.declared.package_name.PackageName.{PackageName}
 use Rattle.wit_data.specs.declared.stability.Stability.{Stability}
@@ -26,17 +27,12 @@ use Rattle.wit_script_package.specs.declared.mention.Mention.{Mention}
 
 -- What the lines of a package mention of other packages, looked at ahead, since what is foreign stands first in a package.
 
--- what a line of the package mentions, where it stands in its file, and the lines after it
-abbrev pub mentions_at_line : PackageLine → Stability → ℕ → (ℕ → List Mention) → Option OptionalSpan
-    → List Mention
-mentions_at_line said gate next after None = []
-mentions_at_line said gate next after (Some span) = mentions_of said gate span ++ after next
-
--- what a line mentions, and the lines after it, where it is a line of the package
+-- what a line mentions, and the lines after it, where it is a line of the package and fits into its file
 abbrev pub mentions_by : ℕ → List ℕ → (ℕ → List Mention) → Statement → List Mention
 mentions_by at line after (says.Package name) = []
 mentions_by at line after (says.Line said gate) =
-    mentions_at_line said gate (at + length line + 1) after (span_after at line)
+    option_map_or (λ span. mentions_of said gate span ++ after (at + length line + 1))
+    (span_after at line) []
 mentions_by at line after says.Push = []
 mentions_by at line after (says.Request asked) = []
 
@@ -64,22 +60,19 @@ mentions_ahead at (line ∷ lines) =
 abbrev pub new_reading : Reading
 new_reading = record { commands = []; finished = []; current = None; other = false }
 
--- a package that begins; the one before it, if there is one, gets no more lines
-abbrev pub with_begun : Reading → Draft → Reading
-with_begun r p = record r { finished = r.finished ++ option_to_list r.current; current = Some p }
-
--- `package PKG`, with what the lines ahead mention
+-- `package PKG`, with what the lines ahead mention; the package before it, if there is one, gets no more lines
 abbrev pub with_package : Reading → PackageName → List ℕ → List (List ℕ) → Option Reading
 with_package r name line ahead =
-    option_map (with_begun r) (new_draft name line (mentions_ahead (length line + 1) ahead))
+    option_map (λ (p : Draft).
+    record r { finished = r.finished ++ option_to_list r.current; current = Some p })
+    (new_draft name line (mentions_ahead (length line + 1) ahead))
 
 -- a line of the package that gets the lines
-abbrev pub with_current : Reading → Draft → Reading
-with_current r p = record r { current = Some p }
-
 abbrev pub with_package_line : Reading → PackageLine → Stability → List ℕ → Option Reading
 with_package_line r said gate line =
-    option_and_then (λ p. option_map (with_current r) (with_line p said gate line)) r.current
+    option_and_then (λ p.
+    option_map (λ (q : Draft). record r { current = Some q }) (with_line p said gate line))
+    r.current
 
 -- one more command
 abbrev pub with_command : Reading → Request → Reading
@@ -98,28 +91,23 @@ with_push r =
     option_and_then (λ p. option_and_then (with_groups r) (each_of as_group (r.finished ++ p ∷ [])))
     r.current
 
--- another command, after which an `other` waits for its `merge` or none does
-abbrev pub with_asked : Reading → Request → Bool → Reading
-with_asked r asked other = record (with_command r asked) { other = other }
-
--- another command that can be asked, where no package waits for its `push`
+-- another command that can be asked, where no package waits for its `push`; an `other` waits for its `merge` then, or none does
 abbrev pub with_request : Reading → Request → Option Reading
 with_request r asked =
-    if is_some r.current then None else option_map (with_asked r asked) (other_after asked r.other)
+    if is_some r.current then None
+    else option_map (λ other. record (with_command r asked) { other = other })
+    (other_after asked r.other)
 
--- what a line says, before the lines ahead, added
-abbrev pub with_statement : Reading → Statement → List ℕ → List (List ℕ) → Option Reading
-with_statement r (says.Package name) line ahead = with_package r name line ahead
-with_statement r (says.Line said gate) line ahead = with_package_line r said gate line
-with_statement r says.Push line ahead = with_push r
-with_statement r (says.Request asked) line ahead = with_request r asked
-
--- what a line says, where it is understood, added: nothing for a line that says nothing
+-- what a line says, before the lines ahead, added where it is understood: nothing for a line that says nothing
 abbrev pub after_statement_in : Reading → List ℕ → List (List ℕ) → Option (Option Statement)
     → Option Reading
 after_statement_in r line ahead None = None
 after_statement_in r line ahead (Some None) = Some r
-after_statement_in r line ahead (Some (Some said)) = with_statement r said line ahead
+after_statement_in r line ahead (Some (Some (says.Package name))) = with_package r name line ahead
+after_statement_in r line ahead (Some (Some (says.Line said gate))) =
+    with_package_line r said gate line
+after_statement_in r line ahead (Some (Some says.Push)) = with_push r
+after_statement_in r line ahead (Some (Some (says.Request asked))) = with_request r asked
 
 -- a line, before the lines ahead, added
 abbrev pub after_line : Reading → List ℕ → List (List ℕ) → Option Reading

@@ -1,5 +1,5 @@
 -- What a world prints as.
-use Rattle.std.specs.Prelude.{ℕ, List, [], ◌++◌, Option, Some, None, slice_get, codes, flat_map}
+use Rattle.std.specs.Prelude.{ℕ, List, [], ◌++◌, slice_get, codes, flat_map}
 use Rattle.std.specs.Option.{option_map_or}
 use Rattle.wit_graph_data.specs.declared.graph.Graph.{Graph}
 use Rattle.wit_graph_data.specs.IdText.{id_text, interface_id_at, key_text}
@@ -9,15 +9,11 @@ use Rattle.wit_data.specs.declared.world.WorldKey.{WorldKey}
 use Rattle.wit_data.specs.declared.world.WorldItem.TheVariants as item
 use Rattle.wit_data.specs.declared.world.WorldKey.TheVariants as key
 
--- a labelled interface: with its id text where it is named
-abbrev pub labelled_interface_text : List ℕ → Option (List ℕ) → List ℕ
-labelled_interface_text label None = label
-labelled_interface_text label (Some id) = label ++ (codes " = " ++ id)
-
--- an entry under a label
+-- an entry under a label: an interface with its id text where it is named
 abbrev pub labelled_text : Graph → List ℕ → WorldItem → List ℕ
 labelled_text g label (item.Interface id stability docs span external_id) =
-    labelled_interface_text label (interface_id_at g.packages g.interfaces id)
+    option_map_or (λ text. label ++ (codes " = " ++ text))
+    (interface_id_at g.packages g.interfaces id) label
 labelled_text g label (item.Function function) = codes "func " ++ label
 labelled_text g label (item.Type_ id span) = codes "type " ++ label
 

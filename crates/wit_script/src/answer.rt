@@ -1,12 +1,14 @@
 //! The answers to the commands of a script.
-ghost use Rattle.std.specs.Prelude.{◌≡◌, ◌≢◌, ℕ, None, Some, Ok, Err, IfErr, IfOk, false, is_some, string_bytes};
+ghost use Rattle.std.specs.Prelude.{◌≡◌, ◌≢◌, [], ◌∷◌, ℕ, None, Some, Ok, Err, IfErr, IfOk, false, is_some, string_bytes};
 ghost use Rattle.wit_resolve_graph.specs.State.{new_state};
 ghost use Rattle.wit_resolve_graph.specs.Step.{IsCommandShaped, command_of};
-ghost use Rattle.wit_script.specs.Answer.{AnswersChange, AnswersCommand, IsChoice, Answers, AnswersAll, AnswersMerge, AnswersPrint, AnswersSelect, working_state, only_first, line_of, refusal_text, selected_text, pushed_text, line_unless_done, reply_text};
-ghost use Rattle.wit_script.specs.steps.Answer.{IsResultLine};
+ghost use Rattle.wit_queries.specs.Selection.{IsSelection};
+ghost use Rattle.wit_script.specs.Answer.{Answers, AnswersPrint, AnswersSelect, InTurn, only_first, pushed_text, refusal_text, reply_text, selected_text, working_state};
+ghost use Rattle.wit_script.specs.steps.Answer.{AnswersCommand, IsResultLine};
 ghost use Rattle.wit_script.specs.Ready.{CanAllBeAsked};
 ghost use Rattle.wit_script.specs.steps.Ready.{CanBeAsked};
 ghost use Rattle.wit_script.specs.declared.answer.Stage.{Stage};
+ghost use Rattle.wit_script_lines.specs.declared.request.Request.TheVariants as asked;
 
 use crate::printer::{print_world, world_id_text};
 use crate::ready::ReadyCommand;
@@ -51,7 +53,8 @@ impl Stage {
     /// Carries out a change of that graph, and tells its reply.
     fn change(&mut self, alloc: Global, change: Change) -> Result<String, AllocError>
         requires { IsCommandShaped (command_of change) }
-        ensures { IfOk result (λ text. AnswersChange self.old change (string_bytes text) self.new) }
+        ensures { IfOk result
+            (λ text. Answers self.old (asked.Change change) (string_bytes text) self.new) }
     {
         let is_setting = change.is_setting();
         let command = command_of(change);
@@ -73,7 +76,7 @@ impl Stage {
     fn merge(&mut self, alloc: Global) -> Result<String, AllocError>
         requires { self.old.second ≢ None }
         ensures { IfOk result
-            (λ text. AnswersMerge self.old self.old.second (string_bytes text) self.new) }
+            (λ text. Answers self.old asked.Merge (string_bytes text) self.new) }
     {
         match self.second.take() {
             Some(second) => reply_to(alloc, &mut self.first, Command::Merge(second), false),
@@ -88,7 +91,7 @@ pub fn answers_to(alloc: Global, commands: Items<ReadyCommand>) -> Result<String
     requires { CanAllBeAsked commands false }
     ensures { IfOk result (λ text.
         (after : Stage)
-        × AnswersAll (only_first new_state) commands (string_bytes text) after) }
+        × InTurn Answers (only_first new_state) commands (string_bytes text) after) }
 {
     let mut stage = Stage::new(alloc);
     let mut answers = String::new(alloc);
@@ -125,37 +128,29 @@ fn reply_to(
 ) -> Result<String, AllocError>
     requires { IsCommandShaped command }
     ensures { IfOk result (λ text.
-        AnswersCommand (line_of is_setting) resolve.old command (string_bytes text)
-        resolve.new) }
+        AnswersCommand is_setting resolve.old command (string_bytes text) resolve.new) }
 {
     let reply = carry_out(alloc, resolve, command);
-    if is_setting {
-        return line_unless_done(alloc, resolve, &reply);
-    }
-    reply_text(alloc, resolve, &reply)
+    reply_text(alloc, resolve, &reply, is_setting)
 }
 
-/// The line of a reply.
-fn reply_text(alloc: Global, resolve: &Resolve, reply: &Reply) -> Result<String, AllocError>
-    ensures { IfOk result (λ text. string_bytes text ≡ reply_text resolve.now.graph reply.now) }
+/// The line of a reply: nothing where what sets something is carried out.
+fn reply_text(
+    alloc: Global,
+    resolve: &Resolve,
+    reply: &Reply,
+    is_setting: bool,
+) -> Result<String, AllocError>
+    ensures { IfOk result
+        (λ text. string_bytes text ≡ reply_text is_setting resolve.now.graph reply.now) }
 {
     match reply {
+        Reply::Done if is_setting => Ok(String::new(alloc)),
         Reply::Done => String::from_str(alloc, "done\n"),
         Reply::Pushed(id) => pushed(alloc, resolve, *id),
         Reply::Merged(_) => String::from_str(alloc, "merged\n"),
         Reply::NoWorld => String::from_str(alloc, "no world\n"),
         Reply::Refused(refusal) => refused(alloc, refusal),
-    }
-}
-
-/// The line of a reply, where a command that is carried out answers nothing.
-fn line_unless_done(alloc: Global, resolve: &Resolve, reply: &Reply) -> Result<String, AllocError>
-    ensures { IfOk result
-        (λ text. string_bytes text ≡ line_unless_done resolve.now.graph reply.now) }
-{
-    match reply {
-        Reply::Done => Ok(String::new(alloc)),
-        _ => reply_text(alloc, resolve, reply),
     }
 }
 
@@ -230,9 +225,10 @@ fn selected(
     text: &Option<Text>,
 ) -> ResolveResult<String>
     ensures ok { IfOk result (λ out.
-        (world : ℕ) × IsChoice resolve.now.graph id text.now (Ok world)
+        (world : ℕ) × IsSelection resolve.now.graph (id ∷ []) text.now (Ok world)
         × (string_bytes out ≡ selected_text resolve.now.graph world)) }
-    ensures cause { IfErr result (λ kind. IsChoice resolve.now.graph id text.now (Err kind)) }
+    ensures cause { IfErr result
+        (λ kind. IsSelection resolve.now.graph (id ∷ []) text.now (Err kind)) }
 {
     let text = match text {
         Some(text) => Some(text.as_str()),

@@ -1,9 +1,9 @@
 -- Each command stands at its place, line by line.
-use Rattle.std.proofs.Common.{◌≡◌, ◌∙◌, ℕ, ◌+◌, if◌then◌else◌, Bool, true, false, is_some, List, [], ◌∷◌, ◌++◌, length, Option, None, Some, append_assoc, ap, refl, slice_get, subst, sym}
+use Rattle.std.proofs.Common.{◌≡◌, ◌∙◌, ℕ, ◌+◌, if◌then◌else◌, Bool, true, false, is_some, List, [], ◌∷◌, ◌++◌, length, Option, None, Some, append_assoc, ap, fold, refl, slice_get, subst, sym}
 use Rattle.std.proofs.lemmas.List.{append-nil}
 use Rattle.std.proofs.lemmas.Option.{slice_get_within}
 use Rattle.std.specs.List.{AllZip}
-use Rattle.std.specs.Option.{option_and_then, option_map}
+use Rattle.std.specs.Option.{option_and_then, option_flatten, option_map, option_map_or}
 use Rattle.wit_commands.specs.declared.change.Change.TheVariants as change
 use Rattle.wit_data.specs.declared.unresolved.UnresolvedPackageGroup.{UnresolvedPackageGroup}
 use Rattle.wit_script_lines.specs.Line.{lines_of}
@@ -21,9 +21,10 @@ use Rattle.wit_script_package.specs.Draft.{as_group, new_draft}
 use Rattle.wit_script_package.specs.Lines.{with_line as with_draft_line}
 use Rattle.wit_script_package.specs.declared.draft.Draft.{Draft}
 use Rattle.wit_script.specs.Ready.{other_after}
-use Rattle.wit_script.specs.Script.{IsUnderstood, after_line, after_lines, after_statement_in, mentions_ahead, new_reading, with_asked, with_begun, with_current, with_groups}
+use Rattle.wit_script.specs.Script.{IsUnderstood, after_line, after_lines, after_statement_in, mentions_ahead, new_reading, with_groups}
+use Rattle.wit_script.specs.steps.Parts.{with_asked, with_begun, with_current}
 use Rattle.wit_script.specs.declared.reader.Reading.{Reading}
-use Rattle.wit_script_explain.specs.Lines.{no_lines, script_lines_of, sort_by, with_line, with_lines, with_sort}
+use Rattle.wit_script_explain.specs.Lines.{no_lines, script_lines_of, sort_of_statement, with_line, with_sort}
 use Rattle.wit_script_explain.specs.declared.lines.CommandPlace.{CommandPlace}
 use Rattle.wit_script_explain.specs.declared.lines.LineSort.{LineSort}
 use Rattle.wit_script_explain.specs.declared.lines.LineSort.TheVariants as sort
@@ -45,6 +46,14 @@ zip-map R S each (a ∷ xs) [] all = absurd all
 zip-map R S each (a ∷ xs) (b ∷ ys) all = (each a b all.0, zip-map R S each xs ys all.1)
 
 -- ---- lines
+
+-- what a line is, by what its tokens say
+abbrev sort_by : Option (Option Statement) → LineSort
+sort_by said = option_map_or sort_of_statement (option_flatten said) sort.Silent
+
+-- more lines
+abbrev with_lines : ScriptLines → List (List ℕ) → ScriptLines
+with_lines s lines = fold with_line s lines
 
 sort-lines : (s : ScriptLines) (what : LineSort) → (with_sort s what).lines ≡ s.lines
 sort-lines s sort.Silent = refl

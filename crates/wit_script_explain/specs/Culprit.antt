@@ -1,7 +1,7 @@
 -- The line at which what isn't understood stands: of a package that hasn't its shape not the `push`, but the line that breaks
 -- it. Indices count from 0.
 use Rattle.std.specs.Prelude.{ℕ, ◌+◌, ◌-◌, ◌||◌, Bool, true, false, not, List, [], ◌∷◌, take, slice_get, Option, Some, None, if◌then◌else◌, bytes_eq}
-use Rattle.std.specs.Option.{option_map_or}
+use Rattle.std.specs.Option.{option_flatten, option_map_or}
 use Rattle.wit_names.specs.UsePath.{is_kebab_name}
 use Rattle.wit_names.specs.declared.package_name.PackageName.{PackageName}
 use Rattle.wit_names.specs.declared.use_path.ParsedUsePath.{ParsedUsePath}
@@ -63,14 +63,9 @@ with_said s index (says.Line said gate) = with_part s index said
 with_said s index says.Push = no_search
 with_said s index (says.Request asked) = no_search
 
-abbrev pub with_read : Search → ℕ → Option (Option Statement) → Search
-with_read s index None = s
-with_read s index (Some None) = s
-with_read s index (Some (Some said)) = with_said s index said
-
 -- the search after a line
 abbrev pub with_line : Search → ℕ → List ℕ → Search
-with_line s index line = with_read s index (statement_of line)
+with_line s index line = option_map_or (with_said s index) (option_flatten (statement_of line)) s
 
 -- the search after lines, of which the first has this index
 abbrev pub searched : Search → ℕ → List (List ℕ) → Search

@@ -1,22 +1,20 @@
 -- What is told of a script: its refusals, and which commands name what isn't there, each with the lines at which it is; or the
 -- line at which it isn't understood.
-use Rattle.std.specs.Prelude.{◌≡◌, ℕ, Bool, true, false, List, [], ◌∷◌, ◌++◌, length, Option, None, Some, Result, Ok, Err, MatchOption, IsUtf8, codes}
+use Rattle.std.specs.Prelude.{◌≡◌, ℕ, Bool, true, false, List, [], ◌∷◌, length, Option, None, Some, Result, MatchOption, MatchResult, IsUtf8, codes}
 use Rattle.std.specs.Option.{option_map_or}
-use Rattle.wit_commands.specs.declared.change.Change.{Change}
 use Rattle.wit_names.specs.declared.package_name.PackageName.{PackageName}
 use Rattle.wit_graph_data.specs.Named.{package_named, world_named}
 use Rattle.wit_graph_data.specs.declared.error_kind.ResolveErrorKind.{ResolveErrorKind}
-use Rattle.wit_resolve_graph.specs.State.{State}
-use Rattle.wit_resolve_graph.specs.Step.{Step, command_of}
-use Rattle.wit_resolve_graph.specs.declared.command.Command.{Command}
+use Rattle.wit_resolve_graph.specs.Step.{command_of}
 use Rattle.wit_resolve_graph.specs.declared.command.Command.TheVariants.{Merge}
 use Rattle.wit_resolve_graph.specs.declared.command.Reply.{Reply}
-use Rattle.wit_script.specs.Answer.{IsChoice}
+use Rattle.wit_script.specs.Answer.{CarriesOut, InTurn, IsSelection, working_state}
 use Rattle.wit_script.specs.Script.{IsNotUnderstood, IsUnderstood}
+use Rattle.wit_script.specs.declared.answer.Stage.{Stage}
 use Rattle.wit_script_lines.specs.declared.request.Request.{Request}
 use Rattle.wit_script_lines.specs.declared.request.Request.TheVariants as request
 use Rattle.wit_script_lines.specs.Line.{lines_of}
-use Rattle.wit_script_explain.specs.Desk.{coming_packages, new_desk, new_tracked, only_first, tracked_after, with_working, working}
+use Rattle.wit_script_explain.specs.Desk.{coming_packages, graphs_of, new_desk, new_tracked, with_files, with_working, working}
 use Rattle.wit_script_explain.specs.Lines.{script_lines_of}
 use Rattle.wit_script_explain.specs.Misread.{IsMisreadText}
 use Rattle.wit_script_explain.specs.Refusals.{TellsRefusal, TellsReply, missing_text, unless_refused}
@@ -25,49 +23,34 @@ use Rattle.wit_script_explain.specs.declared.desk.TrackedGraph.{TrackedGraph}
 use Rattle.wit_script_explain.specs.declared.lines.CommandPlace.{CommandPlace}
 use Rattle.wit_script_explain.specs.declared.lines.ScriptLines.{ScriptLines}
 use Rattle.wit_ways.specs.Asked.{asked_of}
+use Rattle.wit_ways.specs.declared.asked.Asked.{Asked}
 use Rattle.wit_ways.specs.declared.asked.Asked.TheVariants.{Other}
 
--- a command whose files, where it brings any, begin with these lines, and the packages that it brings with those; its reply,
--- and what is told of that
-abbrev pub ExplainsReply : ScriptLines → CommandPlace → TrackedGraph → Command → List ℕ → List ℕ
-    → Option Reply → List ℕ → TrackedGraph → Type 0
-ExplainsReply script place before command coming brought reply text after =
-    (answer : Reply) × (new : State) × (reply ≡ Some answer)
-    × Step before.resolve command answer new
-    × (after ≡ tracked_after before new coming (unless_refused answer brought))
-    × TellsReply script place after (asked_of before.resolve command) answer text
+-- ---- a command
 
--- a change of the graph on which commands work
-abbrev pub ExplainsChange : ScriptLines → CommandPlace → Desk → Change → Option Reply → List ℕ
-    → Desk → Type 0
-ExplainsChange script place before change reply text after =
+-- the graphs that are there after a command, each with the lines of its files: those that a change brings come next in the
+-- script, those that `merge` brings are known of the second graph
+abbrev pub desk_after : ScriptLines → CommandPlace → Desk → Request → Option Reply → Stage → Desk
+desk_after script place before (request.Change change) reply now =
     let coming = coming_packages script place in
-    (new : TrackedGraph)
-    × ExplainsReply script place (working before) (command_of change) coming coming reply text new
-    × (after ≡ with_working before new)
+    with_working before (with_files (record (working before) { resolve = working_state now }) coming
+    (unless_refused reply coming))
+desk_after script place before request.Merge reply now =
+    option_map_or (λ (second : TrackedGraph).
+    record {
+      first = with_files (record before.first { resolve = now.first }) second.file_starts
+          (unless_refused reply second.package_starts);
+      second = None;
+    }) before.second before
+desk_after script place before request.Other reply now = record before { second = Some new_tracked }
+desk_after script place before _ reply now = before
 
--- `merge`: the second graph goes into the first, and is no longer there
-abbrev pub ExplainsMerge : ScriptLines → CommandPlace → Desk → Option TrackedGraph → Option Reply
-    → List ℕ → Desk → Type 0
-ExplainsMerge script place before None reply text after =
-    (reply ≡ None) × (text ≡ []) × (after ≡ before)
-ExplainsMerge script place before (Some second) reply text after =
-    (new : TrackedGraph)
-    × ExplainsReply script place before.first (Merge second.resolve)
-    second.file_starts second.package_starts reply text new
-    × (after ≡ only_first new)
-
--- what is told of a choice of a world
-abbrev pub TellsChoice : ScriptLines → CommandPlace → TrackedGraph → Result ℕ ResolveErrorKind
-    → List ℕ → Type 0
-TellsChoice script place tracked (Ok world) text = text ≡ []
-TellsChoice script place tracked (Err kind) text = TellsRefusal script place tracked Other kind text
-
--- `print`: there is no such world
-abbrev pub print_text : ScriptLines → CommandPlace → TrackedGraph → PackageName → List ℕ → List ℕ
-print_text script place tracked owner world =
-    option_map_or (λ w. []) (world_named tracked.resolve.graph owner world)
-    (missing_text script place (codes "no world"))
+-- what a command asks of a graph, as far as the way of a refusal goes by it
+abbrev pub asked_in : Stage → Request → Asked
+asked_in before (request.Change change) = asked_of (working_state before) (command_of change)
+asked_in before request.Merge =
+    option_map_or (λ second. asked_of before.first (Merge second)) before.second Other
+asked_in before _ = Other
 
 -- `select`: there is no such package, or a choice that may be made of it
 abbrev pub ExplainsSelect : ScriptLines → CommandPlace → TrackedGraph → PackageName
@@ -75,45 +58,48 @@ abbrev pub ExplainsSelect : ScriptLines → CommandPlace → TrackedGraph → Pa
 ExplainsSelect script place tracked owner said text =
     MatchOption (package_named tracked.resolve.graph owner)
     (text ≡ missing_text script place (codes "no package"))
-    (λ id. (choice : Result ℕ ResolveErrorKind) × IsChoice tracked.resolve.graph id said choice
-    × TellsChoice script place tracked choice text)
+    (λ id. (choice : Result ℕ ResolveErrorKind)
+    × IsSelection tracked.resolve.graph (id ∷ []) said choice
+    × MatchResult choice (λ world. text ≡ [])
+    (λ kind. TellsRefusal script place tracked Other kind text))
 
--- the reply to a command that changes a graph, what is told of a command, and the desk after it
+-- what is told of a command, by its reply and the graph on which commands work after it
+abbrev pub TellsCommand : ScriptLines → CommandPlace → TrackedGraph → Asked → Request
+    → Option Reply → List ℕ → Type 0
+TellsCommand script place after asked (request.Print owner world) reply text =
+    text ≡ option_map_or (λ w. []) (world_named after.resolve.graph owner world)
+    (missing_text script place (codes "no world"))
+TellsCommand script place after asked (request.Select owner said) reply text =
+    ExplainsSelect script place after owner said text
+TellsCommand script place after asked _ reply text = TellsReply script place after asked reply text
+
+-- a command is carried out, the lines of its files are noted, and it is told
 abbrev pub ExplainsCommand : ScriptLines → CommandPlace → Desk → Request → Option Reply → List ℕ
     → Desk → Type 0
-ExplainsCommand script place before (request.Change change) reply text after =
-    ExplainsChange script place before change reply text after
-ExplainsCommand script place before request.Other reply text after =
-    (reply ≡ None) × (text ≡ [])
-    × (after ≡ record { first = before.first; second = Some new_tracked })
-ExplainsCommand script place before request.Merge reply text after =
-    ExplainsMerge script place before before.second reply text after
-ExplainsCommand script place before (request.Print owner world) reply text after =
-    (reply ≡ None) × (text ≡ print_text script place (working before) owner world)
-    × (after ≡ before)
-ExplainsCommand script place before (request.Select owner said) reply text after =
-    (reply ≡ None) × (after ≡ before)
-    × ExplainsSelect script place (working before) owner said text
+ExplainsCommand script place before command reply text after =
+    CarriesOut (graphs_of before) command reply (graphs_of after)
+    × (after ≡ desk_after script place before command reply (graphs_of after))
+    × TellsCommand script place (working after) (asked_in (graphs_of before) command) command reply
+    text
 
--- the first of some commands; where there is none, one behind all lines
-abbrev pub place_of : ScriptLines → List CommandPlace → CommandPlace
-place_of script [] =
-    record { line = length script.lines; packages = length script.packages; is_push = false }
-place_of script (place ∷ places) = place
+-- ---- commands, one after another
 
--- those after it
-abbrev pub rest_of : List CommandPlace → List CommandPlace
-rest_of [] = []
-rest_of (place ∷ places) = places
+-- each command with the place at which it stands; where there is none, with one behind all lines
+abbrev pub with_places : ScriptLines → List CommandPlace → List Request
+    → List (CommandPlace × Request)
+with_places script places [] = []
+with_places script [] (command ∷ commands) = (
+  record { line = length script.lines; packages = length script.packages; is_push = false },
+  command,
+)
+    ∷ with_places script [] commands
+with_places script (place ∷ places) (command ∷ commands) =
+    (place, command) ∷ with_places script places commands
 
--- what is told of commands, one after another, which stand at these places
-abbrev pub ExplainsAll : ScriptLines → List CommandPlace → Desk → List Request → List ℕ → Desk
-    → Type 0
-ExplainsAll script places before [] text after = (text ≡ []) × (after ≡ before)
-ExplainsAll script places before (command ∷ commands) text after =
-    (between : Desk) × (reply : Option Reply) × (first : List ℕ) × (rest : List ℕ)
-    × ExplainsCommand script (place_of script places) before command reply first between
-    × ExplainsAll script (rest_of places) between commands rest after × (text ≡ first ++ rest)
+-- a command at its place is carried out, and told
+abbrev pub ExplainsPlaced : ScriptLines → Desk → CommandPlace × Request → List ℕ → Desk → Type 0
+ExplainsPlaced script before placed text after =
+    (reply : Option Reply) × ExplainsCommand script placed.0 before placed.1 reply text after
 
 -- what is told of a script that is understood: the refusals of its commands on an empty graph, and what isn't there
 pub record ExplainsScript (input text : List ℕ) : Type 0 where
@@ -121,8 +107,9 @@ pub record ExplainsScript (input text : List ℕ) : Type 0 where
   pub commands : List Request
   pub understood : IsUnderstood input commands
   pub after : Desk
-  pub told : ExplainsAll (script_lines_of (lines_of input))
-      (script_lines_of (lines_of input)).commands new_desk commands text after
+  pub told : InTurn (ExplainsPlaced (script_lines_of (lines_of input))) new_desk
+      (with_places (script_lines_of (lines_of input))
+      (script_lines_of (lines_of input)).commands commands) text after
 
 -- what is told of a script that isn't understood: the line at which it isn't
 pub record ExplainsMisread (input text : List ℕ) : Type 0 where

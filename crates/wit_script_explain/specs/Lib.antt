@@ -7,4 +7,6 @@ pub mod Places
 pub mod Refusals
 pub mod Shown
 pub mod Ways
+pub mod facts
 pub mod laws
+pub mod steps

@@ -1,5 +1,6 @@
 -- Which lines of a script are commands and which go into the files of packages. Indices count from 0.
-use Rattle.std.specs.Prelude.{ℕ, Bool, true, false, List, [], ◌∷◌, ◌++◌, length, Option, Some, None}
+use Rattle.std.specs.Prelude.{ℕ, Bool, true, false, List, [], ◌∷◌, ◌++◌, fold, length}
+use Rattle.std.specs.Option.{option_flatten, option_map_or}
 use Rattle.wit_script_lines.specs.Statement.{statement_of}
 use Rattle.wit_script_lines.specs.declared.statement.Statement.{Statement}
 use Rattle.wit_script_lines.specs.declared.statement.Statement.TheVariants as says
@@ -15,13 +16,9 @@ sort_of_statement says.Push = sort.Push
 sort_of_statement (says.Request asked) = sort.Request
 
 -- what a line is, by what its tokens say
-abbrev pub sort_by : Option (Option Statement) → LineSort
-sort_by None = sort.Silent
-sort_by (Some None) = sort.Silent
-sort_by (Some (Some said)) = sort_of_statement said
-
 abbrev pub sort_of : List ℕ → LineSort
-sort_of line = sort_by (statement_of line)
+sort_of line =
+    option_map_or sort_of_statement (option_flatten (statement_of line)) sort.Silent
 
 abbrev pub no_lines : ScriptLines
 no_lines = record { lines = []; filed = []; packages = []; commands = []; pushed = 0 }
@@ -49,11 +46,6 @@ abbrev pub with_line : ScriptLines → List ℕ → ScriptLines
 with_line s line =
     let noted = with_sort s (sort_of line) in record noted { lines = noted.lines ++ line ∷ [] }
 
--- more lines
-abbrev pub with_lines : ScriptLines → List (List ℕ) → ScriptLines
-with_lines s [] = s
-with_lines s (line ∷ lines) = with_lines (with_line s line) lines
-
 -- the lines of a script
 abbrev pub script_lines_of : List (List ℕ) → ScriptLines
-script_lines_of lines = with_lines no_lines lines
+script_lines_of lines = fold with_line no_lines lines

@@ -21,19 +21,15 @@ place_at (file ∷ files) (start ∷ file_starts) position =
     then Some (file.0, start, count_by is_line_feed (take position file.1))
     else place_at files file_starts (position - (length file.1 + 1))
 
--- the line of the script that so many lines come before, of those from a place on that go into files, and the first of these
-abbrev pub line_from : List ℕ → List ℕ → ℕ → Option (ℕ × List ℕ × ℕ)
-line_from path own line =
-    option_and_then (λ index. option_map (λ first. (index, path, first)) (slice_get own 0))
-    (slice_get own line)
-
 -- the line of a span by its index in the script, the name of the file into which it goes, and the index of the file's first
 -- line; None where the span is unknown or in no file
 abbrev pub span_place : ScriptLines → TrackedGraph → Option (ℕ × ℕ) → Option (ℕ × List ℕ × ℕ)
 span_place script tracked None = None
 span_place script tracked (Some range) =
-    option_and_then
-    (λ (place : List ℕ × ℕ × ℕ). line_from place.0 (drop place.1 script.filed) place.2)
+    option_and_then (λ (place : List ℕ × ℕ × ℕ).
+    let own = drop place.1 script.filed in
+    option_and_then (λ index. option_map (λ first. (index, place.0, first)) (slice_get own 0))
+    (slice_get own place.2))
     (place_at (files_of tracked.resolve.source_map.files) tracked.file_starts range.0)
 
 -- a line begins the package of a name, by what it says
@@ -42,13 +38,11 @@ begins name (Some (Some (says.Package begun))) = same_package begun name
 begins name _ = false
 
 -- the line at a place of those that go into files, where it begins the package of a name
-abbrev pub begins_in : ScriptLines → PackageName → ℕ → Option ℕ
-begins_in script name index =
-    option_and_then (λ line. if begins name (statement_of line) then Some index else None)
-    (slice_get script.lines index)
-
 abbrev pub begins_at : ScriptLines → PackageName → ℕ → Option ℕ
-begins_at script name place = option_and_then (begins_in script name) (slice_get script.filed place)
+begins_at script name place =
+    option_and_then (λ index.
+    option_and_then (λ line. if begins name (statement_of line) then Some index else None)
+    (slice_get script.lines index)) (slice_get script.filed place)
 
 -- the line that begins the package of a name, among those that begin packages at these places
 abbrev pub defined_line : ScriptLines → PackageName → List ℕ → Option ℕ

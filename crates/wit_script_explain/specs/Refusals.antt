@@ -39,15 +39,12 @@ spans_text script tracked (DuplicatePackage name span1 span2) =
     span_text script tracked span1 ++ other_text script tracked name span2
 spans_text script tracked kind = span_text script tracked (error_span kind)
 
--- the line of a command, where it is asked or the lines that are named are none
-abbrev pub with_command : ScriptLines → CommandPlace → List ℕ → List ℕ
-with_command script place named =
-    if not place.is_push || (length named == 0) then named ++ command_text script place.line
-    else named
-
 -- the lines at which a refusal is: those that it names, and that of its command, where it is no `push` or no other is known
 abbrev pub places_text : ScriptLines → CommandPlace → TrackedGraph → ResolveErrorKind → List ℕ
-places_text script place tracked kind = with_command script place (spans_text script tracked kind)
+places_text script place tracked kind =
+    let named = spans_text script tracked kind in
+    if not place.is_push || (length named == 0) then named ++ command_text script place.line
+    else named
 
 -- `refused N TEXT`, the lines at which it is, its way, and the document that says more of N
 abbrev pub told_text : ℕ → List ℕ → List ℕ → List ℕ → List ℕ
@@ -80,15 +77,16 @@ TellsRefusal script place tracked asked kind text =
 abbrev pub missing_text : ScriptLines → CommandPlace → List ℕ → List ℕ
 missing_text script place missing = missing ++ (codes "\n" ++ command_text script place.line)
 
--- what is told of a reply to what was asked, in the state after it
-abbrev pub TellsReply : ScriptLines → CommandPlace → TrackedGraph → Asked → Reply → List ℕ → Type 0
-TellsReply script place after asked (reply.Refused kind) text =
+-- what is told of a reply to what was asked, where there is one, in the state after it
+abbrev pub TellsReply : ScriptLines → CommandPlace → TrackedGraph → Asked → Option Reply → List ℕ
+    → Type 0
+TellsReply script place after asked (Some (reply.Refused kind)) text =
     TellsRefusal script place after asked kind text
-TellsReply script place after asked reply.NoWorld text =
+TellsReply script place after asked (Some reply.NoWorld) text =
     text ≡ missing_text script place (codes "no world")
 TellsReply script place after asked _ text = text ≡ []
 
 -- these, unless the reply is a refusal
-abbrev pub unless_refused : Reply → List ℕ → List ℕ
-unless_refused (reply.Refused kind) brought = []
+abbrev pub unless_refused : Option Reply → List ℕ → List ℕ
+unless_refused (Some (reply.Refused kind)) brought = []
 unless_refused _ brought = brought

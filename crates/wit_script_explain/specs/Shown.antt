@@ -23,21 +23,19 @@ abbrev pub noted_text : ℕ → List ℕ → List ℕ
 noted_text number line = snippet_text number line ++ return_note line
 
 -- where a command stands: its number in the script
-abbrev pub command_text_of : ℕ → List ℕ → List ℕ
-command_text_of index line =
-    codes "     --> line " ++ (decimal (index + 1) ++ (codes "\n" ++ noted_text (index + 1) line))
-
 abbrev pub command_text : ScriptLines → ℕ → List ℕ
-command_text script index = option_map_or (command_text_of index) (slice_get script.lines index) []
+command_text script index =
+    option_map_or (λ line.
+    codes "     --> line " ++ (decimal (index + 1) ++ (codes "\n" ++ noted_text (index + 1) line)))
+    (slice_get script.lines index) []
 
 -- where a line stands that goes into the file of a package: its number in the script, and in brackets the file, its number
 -- in the file, and the column at which it begins to say something
-abbrev pub place_text_of : ℕ × List ℕ × ℕ → List ℕ → List ℕ
-place_text_of place line =
+abbrev pub place_text : ScriptLines → ℕ × List ℕ × ℕ → List ℕ
+place_text script place =
+    option_map_or (λ line.
     codes "     --> line "
     ++ (decimal (place.0 + 1)
     ++ (codes " (" ++ (location_text place.1 (place.0 - place.2 + 1) (content_start_of line + 1)
-    ++ (codes ")\n" ++ noted_text (place.0 + 1) line))))
-
-abbrev pub place_text : ScriptLines → ℕ × List ℕ × ℕ → List ℕ
-place_text script place = option_map_or (place_text_of place) (slice_get script.lines place.0) []
+    ++ (codes ")\n" ++ noted_text (place.0 + 1) line)))))
+    (slice_get script.lines place.0) []

@@ -6,7 +6,7 @@ use wit_resolve_graph::Reply;
 /// What a command of a script came to.
 #[derive(Drop)]
 pub struct Outcome {
-    /// The reply to a change of a graph, or to `merge`; None of other commands, and of a `merge` without `other`.
+    /// The reply to a change of a graph, or to `merge`; None of other commands.
     pub reply: Option<Reply>,
     /// Why it is refused, or what isn't there, with its lines; else nothing.
     pub text: String,

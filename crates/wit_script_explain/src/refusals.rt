@@ -1,9 +1,14 @@
 //! The refusals of a script and what its commands don't find, each with its lines, and a script that isn't understood.
-ghost use Rattle.std.specs.Prelude.{◌≡◌, IfErr, IfOk, Err, Ok, string_bytes};
+ghost use Rattle.std.specs.Prelude.{◌≡◌, ◌≢◌, [], ◌∷◌, IfErr, IfOk, Err, None, Ok, Some, false, is_some, string_bytes};
 ghost use Rattle.wit_resolve_graph.specs.Step.{IsCommandShaped, command_of};
-ghost use Rattle.wit_script.specs.Answer.{IsChoice};
+ghost use Rattle.wit_script.specs.Answer.{InTurn, IsSelection};
+ghost use Rattle.wit_script.specs.Ready.{CanAllBeAsked};
+ghost use Rattle.wit_script.specs.steps.Ready.{CanBeAsked};
+ghost use Rattle.wit_script_lines.specs.declared.request.Request.TheVariants as request;
+ghost use Rattle.wit_ways.specs.declared.asked.Asked.TheVariants.{Other};
 ghost use Rattle.wit_script_explain.specs.Desk.{new_desk};
-ghost use Rattle.wit_script_explain.specs.Explained.{Explains, ExplainsAll, ExplainsChange, ExplainsCommand, ExplainsMerge, ExplainsReply, ExplainsSelect, place_of, print_text, rest_of};
+ghost use Rattle.wit_script_explain.specs.Explained.{Explains, ExplainsCommand, ExplainsPlaced, TellsCommand, with_places};
+ghost use Rattle.wit_script_explain.specs.steps.Explained.{ExplainsReply, place_of, rest_of};
 ghost use Rattle.wit_script_explain.specs.Misread.{IsMisreadText};
 ghost use Rattle.wit_script_explain.specs.Refusals.{TellsRefusal, TellsReply, missing_text, other_text, places_text, span_text, spans_text, unless_refused};
 ghost use Rattle.wit_script_explain.specs.declared.desk.Desk.{Desk};
@@ -78,16 +83,18 @@ pub fn next_place<'a>(
     }
 }
 
-/// The refusals of commands on an empty graph, in order. The only error is want of memory outside a command.
+/// The refusals of commands on an empty graph, in order, of which each can be asked after those before it. The only error is
+/// want of memory outside a command.
 fn refusals_to(
     alloc: Global,
     script: &ScriptLines,
     commands: Items<ReadyCommand>,
 ) -> ResolveResult<String>
+    requires { CanAllBeAsked commands false }
     ensures { IfOk result (λ text.
         (after : Desk)
-        × ExplainsAll script.now script.now.commands new_desk commands (string_bytes text)
-        after) }
+        × InTurn (ExplainsPlaced script.now) new_desk
+        (with_places script.now script.now.commands commands) (string_bytes text) after) }
 {
     let mut desk = Desk::new(alloc);
     let mut all = String::new(alloc);
@@ -101,8 +108,8 @@ fn refusals_to(
     Ok(all)
 }
 
-/// Carries out a command of a script, which stands at this place, on its graphs. Want of memory in the command is an
-/// outcome; elsewhere it is the only refusal.
+/// Carries out a command of a script, which stands at this place, on its graphs: `other` where there is no second one, and
+/// `merge` where there is. Want of memory in the command is an outcome; elsewhere it is the only refusal.
 pub fn explain_command(
     alloc: Global,
     script: &ScriptLines,
@@ -110,6 +117,7 @@ pub fn explain_command(
     desk: &mut Desk,
     command: ReadyCommand,
 ) -> ResolveResult<Outcome>
+    requires { CanBeAsked command (is_some desk.old.second) }
     ensures { IfOk result (λ outcome.
         ExplainsCommand script.now place.now desk.old command outcome.reply
         (string_bytes outcome.text) desk.new) }
@@ -142,7 +150,7 @@ fn change_graph(
 ) -> ResolveResult<Outcome>
     requires { IsCommandShaped (command_of change) }
     ensures { IfOk result (λ outcome.
-        ExplainsChange script.now place.now desk.old change outcome.reply
+        ExplainsCommand script.now place.now desk.old (request.Change change) outcome.reply
         (string_bytes outcome.text) desk.new) }
 {
     let command = command_of(change);
@@ -168,12 +176,13 @@ fn merge(
     place: &CommandPlace,
     desk: &mut Desk,
 ) -> ResolveResult<Outcome>
+    requires { desk.old.second ≢ None }
     ensures { IfOk result (λ outcome.
-        ExplainsMerge script.now place.now desk.old desk.old.second outcome.reply
+        ExplainsCommand script.now place.now desk.old request.Merge outcome.reply
         (string_bytes outcome.text) desk.new) }
 {
     let Some(second) = desk.second.take() else {
-        return Ok(Outcome::told(String::new(alloc)));
+        unreachable!()
     };
     let TrackedGraph {
         resolve,
@@ -220,7 +229,7 @@ fn explain_reply(
 
 /// These, unless a reply is a refusal.
 fn unless_refused<'a>(reply: &Reply, brought: &'a [usize]) -> &'a [usize]
-    ensures { result.now ≡ unless_refused reply.now brought.now }
+    ensures { result.now ≡ unless_refused (Some reply.now) brought.now }
 {
     match reply {
         Reply::Refused(_) => &[],
@@ -238,7 +247,8 @@ fn reply_text(
     reply: &Reply,
 ) -> ResolveResult<String>
     ensures { IfOk result (λ text.
-        TellsReply script.now place.now tracked.now asked.now reply.now (string_bytes text)) }
+        TellsReply script.now place.now tracked.now asked.now (Some reply.now)
+        (string_bytes text)) }
 {
     match reply {
         Reply::Refused(refusal) => refusal_text(alloc, script, place, tracked, asked, refusal),
@@ -373,7 +383,8 @@ fn print(
     world: &Text,
 ) -> ResolveResult<String>
     ensures { IfOk result (λ text.
-        string_bytes text ≡ print_text script.now place.now tracked.now owner.now world.now) }
+        TellsCommand script.now place.now tracked.now Other (request.Print owner.now world.now) None
+        (string_bytes text)) }
 {
     match tracked.resolve.world_named(owner, world.as_str()) {
         Some(_) => Ok(String::new(alloc)),
@@ -391,7 +402,8 @@ fn select(
     text: &Option<Text>,
 ) -> ResolveResult<String>
     ensures { IfOk result (λ out.
-        ExplainsSelect script.now place.now tracked.now owner.now text.now (string_bytes out)) }
+        TellsCommand script.now place.now tracked.now Other (request.Select owner.now text.now) None
+        (string_bytes out)) }
 {
     let Some(id) = tracked.resolve.package_names().get(owner) else {
         return Ok(missing_text(alloc, script, place, "no package")?);
@@ -409,9 +421,10 @@ fn chosen(
     id: PackageId,
     text: &Option<Text>,
 ) -> ResolveResult<WorldId>
-    ensures ok { IfOk result (λ world. IsChoice tracked.now.resolve.graph id text.now (Ok world)) }
+    ensures ok { IfOk result
+        (λ world. IsSelection tracked.now.resolve.graph (id ∷ []) text.now (Ok world)) }
     ensures cause { IfErr result
-        (λ kind. IsChoice tracked.now.resolve.graph id text.now (Err kind)) }
+        (λ kind. IsSelection tracked.now.resolve.graph (id ∷ []) text.now (Err kind)) }
 {
     let text = match text {
         Some(text) => Some(text.as_str()),

@@ -1,9 +1,18 @@
 -- Forms that stand in each other.
-use Rattle.std.proofs.Common.{◌≡◌, ℕ, suc, zero, ◌≤◌, ◌<◌, List, [], ◌∷◌, ◌++◌, Some, None, length, sym, ap, ◌∙◌, append_assoc, arith}
+use Rattle.std.proofs.Common.{◌≡◌, ℕ, suc, zero, ◌≤◌, ◌<◌, List, [], ◌∷◌, ◌++◌, Option, Some, None, length, sym, ap, ◌∙◌, append_assoc, arith}
 use Rattle.std.proofs.lemmas.List.{append-nil}
-use Rattle.wit_script_lines.specs.TypeText.{form_of, in_forms, type_text_by, type_text_within, written_of}
+use Rattle.std.specs.Option.{option_map_or}
+use Rattle.wit_script_lines.specs.TypeText.{form_of, type_text_within, written_of}
 use Rattle.wit_script_lines.specs.declared.type_text.TypeText.{TypeText}
 use Rattle.wit_script_lines.specs.declared.type_text.Wrap.{Wrap}
+
+-- forms around what a text says
+abbrev in_forms : List Wrap → TypeText → TypeText
+in_forms wraps text = record { wraps = wraps ++ text.wraps; core = text.core }
+
+-- a text by its outermost form
+abbrev type_text_by : (List ℕ → TypeText) → List ℕ → Option (Wrap × List ℕ) → TypeText
+type_text_by read text form = option_map_or (λ (f : Wrap × List ℕ). in_forms (f.0 ∷ []) (read f.1)) form (record { wraps = []; core = written_of text })
 
 -- forms around what the rest of a text says
 abbrev pub Stands : TypeText → List Wrap → List ℕ → Type 0

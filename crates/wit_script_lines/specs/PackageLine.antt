@@ -20,16 +20,12 @@ abbrev pub each_of : {A B : Type 0} → (A → Option B) → List A → Option (
 each_of read [] = Some []
 each_of read (x ∷ xs) = option_and_then (λ y. option_map (λ ys. y ∷ ys) (each_of read xs)) (read x)
 
--- a name, which has at least one byte, with a type of this text
-abbrev pub typed_name_with : List ℕ → List ℕ → Option TypedName
-typed_name_with name ty =
-    option_map (λ (own : List ℕ). record { name = own; ty = type_text_of ty }) (part_of name)
-
--- `NAME:TYPE`; the name ends at the first colon
+-- `NAME:TYPE`; the name ends at the first colon, and has at least one byte
 abbrev pub typed_name_of : List ℕ → Option TypedName
 typed_name_of token =
-    option_and_then (λ (parts : List ℕ × List ℕ). typed_name_with parts.0 parts.1)
-    (split_at 58 token)
+    option_and_then (λ (parts : List ℕ × List ℕ).
+    option_map (λ (name : List ℕ). record { name = name; ty = type_text_of parts.1 })
+    (part_of parts.0)) (split_at 58 token)
 
 -- the parameters between the brackets, which commas part
 abbrev pub params_of : List ℕ → Option (List TypedName)
@@ -103,17 +99,12 @@ abbrev pub entry_tokens : List (List ℕ) → Option (Option (List ℕ) × Parse
 entry_tokens (token ∷ []) = entry_by token (split_at 61 token)
 entry_tokens _ = None
 
--- another name for a label
-abbrev pub rename_with : List ℕ → List ℕ → Option IncludeName
-rename_with old new =
-    option_and_then (λ (name : List ℕ).
-    option_map (λ (other : List ℕ). record { name = name; as_ = other }) (part_of new))
-    (part_of old)
-
 -- `OLD=NEW`; the old name ends at the first `=`
 abbrev pub rename_of : List ℕ → Option IncludeName
 rename_of token =
-    option_and_then (λ (parts : List ℕ × List ℕ). rename_with parts.0 parts.1) (split_at 61 token)
+    option_and_then (λ (parts : List ℕ × List ℕ). option_and_then (λ (old : List ℕ).
+    option_map (λ (new : List ℕ). record { name = old; as_ = new }) (part_of parts.1))
+    (part_of parts.0)) (split_at 61 token)
 
 -- `PATH OLD=NEW ..`
 abbrev pub include_line_of : List (List ℕ) → Option PackageLine
@@ -149,16 +140,14 @@ is_gate argument =
     is_some (after_prefix (codes "@since=") argument)
     || is_some (after_prefix (codes "@unstable=") argument)
 
--- the gate of what follows `@since=`, or else of what follows `@unstable=`: a version, a feature
-abbrev pub gate_by : Option (List ℕ) → Option (List ℕ) → Option Stability
-gate_by (Some version) feature = option_map (λ since. Stable since None) (version_of version)
-gate_by None (Some feature) = option_map (λ name. Unstable name None) (part_of feature)
-gate_by None None = Some Unknown
-
--- the gate of a line whose last argument this is: one that looks like a gate has to be one, any other says no gate
+-- the gate of a line whose last argument this is: `@since=` and a version, or `@unstable=` and a feature; one that looks like
+-- a gate has to be one, any other says no gate
 abbrev pub gate_of : List ℕ → Option Stability
 gate_of last =
-    gate_by (after_prefix (codes "@since=") last) (after_prefix (codes "@unstable=") last)
+    option_map_or (λ version. option_map (λ since. Stable since None) (version_of version))
+    (after_prefix (codes "@since=") last)
+    (option_map_or (λ feature. option_map (λ name. Unstable name None) (part_of feature))
+    (after_prefix (codes "@unstable=") last) (Some Unknown))
 
 -- the last argument of a line
 abbrev pub last_of : List (List ℕ) → Option (List ℕ)
@@ -168,11 +157,9 @@ last_of arguments = slice_get arguments (length arguments - 1)
 abbrev pub gate_of_line : List (List ℕ) → Option Stability
 gate_of_line arguments = option_map_or gate_of (last_of arguments) (Some Unknown)
 
--- a line of these arguments ends with a gate
-abbrev pub has_gate : List (List ℕ) → Bool
-has_gate arguments = option_map_or is_gate (last_of arguments) false
-
 -- the arguments of a line without its gate
 abbrev pub ungated_of : List (List ℕ) → List (List ℕ)
 ungated_of arguments =
-    if has_gate arguments then take (length arguments - 1) arguments else arguments
+    if option_map_or is_gate (last_of arguments) false
+    then take (length arguments - 1) arguments
+    else arguments

@@ -97,17 +97,6 @@ select_of (name ∷ text ∷ []) =
     option_and_then (λ said. select_with name (Some said)) (part_of text)
 select_of _ = None
 
--- the merge of a world's imports by version, and a world that is printed
-abbrev pub semver_of : List (List ℕ) → Option Request
-semver_of arguments =
-    option_map (λ (named : PackageName × List ℕ). request.Change (change.Semver named.0 named.1))
-    (world_of arguments)
-
-abbrev pub print_of : List (List ℕ) → Option Request
-print_of arguments =
-    option_map (λ (named : PackageName × List ℕ). request.Print named.0 named.1)
-    (world_of arguments)
-
 -- such a command by its first token and its arguments
 abbrev pub request_by : List ℕ → List (List ℕ) → Option Request
 request_by word arguments =
@@ -119,7 +108,11 @@ request_by word arguments =
     else if bytes_eq word (codes "merge") then alone_of request.Merge arguments
     else if bytes_eq word (codes "importize") then importize_of arguments
     else if bytes_eq word (codes "exportize") then exportize_of arguments
-    else if bytes_eq word (codes "semver") then semver_of arguments
-    else if bytes_eq word (codes "print") then print_of arguments
+    else if bytes_eq word (codes "semver") then
+    option_map (λ (named : PackageName × List ℕ). request.Change (change.Semver named.0 named.1))
+    (world_of arguments)
+    else if bytes_eq word (codes "print") then
+    option_map (λ (named : PackageName × List ℕ). request.Print named.0 named.1)
+    (world_of arguments)
     else if bytes_eq word (codes "select") then select_of arguments
     else None

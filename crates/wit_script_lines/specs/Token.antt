@@ -85,11 +85,9 @@ abbrev pub after_prefix : List ℕ → List ℕ → Option (List ℕ)
 after_prefix word text =
     if starts_with nat_eq text word then Some (drop (length word) text) else None
 
--- what stands before a `>` at the end of a text
-abbrev pub before_end : List ℕ → Option (List ℕ)
-before_end text =
-    if ends_with nat_eq text (codes ">") then Some (take (length text - 1) text) else None
-
 -- what stands inside `WORD<..>`; the word is given with its `<`
 abbrev pub inside : List ℕ → List ℕ → Option (List ℕ)
-inside opening text = option_and_then before_end (after_prefix opening text)
+inside opening text =
+    option_and_then (λ rest.
+    if ends_with nat_eq rest (codes ">") then Some (take (length rest - 1) rest) else None)
+    (after_prefix opening text)

@@ -35,7 +35,8 @@ use Rattle.wit_data.specs.declared.world.WorldKey.{WorldKey}
 use Rattle.wit_data.specs.declared.types.TypeDefKind.TheVariants as kind
 use Rattle.wit_data.specs.declared.types.TypeOwner.TheVariants as owner
 use Rattle.wit_data.specs.declared.unresolved.AstItem.TheVariants as item
-use Rattle.wit_script_package.specs.Adding.{empty_interface, empty_world, type_with, with_interface_type, with_type, with_type_name, with_type_name_in}
+use Rattle.wit_script_package.specs.Adding.{empty_interface, empty_world, type_with, with_interface_type, with_type, with_type_name}
+use Rattle.wit_script_package.proofs.Parts.{with_type_name_in}
 use Rattle.wit_script_package.specs.Draft.{new_draft, new_draft_at, span_after}
 use Rattle.wit_script_package.specs.Mention.{known_mentions, mentioned_at}
 use Rattle.wit_script_package.specs.Naming.{OptionalSpan, foreign_named}

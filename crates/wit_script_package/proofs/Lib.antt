@@ -13,6 +13,7 @@ pub mod Mentions
 pub mod NoMention
 pub mod Same
 pub mod Owned
+pub mod Parts
 pub mod Places
 pub mod Sound
 pub mod Steps

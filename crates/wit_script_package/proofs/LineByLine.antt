@@ -40,9 +40,9 @@ use Rattle.wit_script_lines.specs.declared.signature.TypedName.{TypedName}
 use Rattle.wit_script_lines.specs.declared.type_text.TypeText.{TypeText}
 use Rattle.wit_script_package.specs.Adding.{with_export, with_function, with_import, with_include, with_named}
 use Rattle.wit_script_package.specs.Draft.{span_after, with_text}
-use Rattle.wit_script_package.specs.Lines.{include_item, interface_entry, key_of, with_export_line, with_exported_function, with_function_line, with_gated_line, with_import_line, with_imported_function, with_include_line, with_line, with_placed, with_record, with_type_line, with_use}
+use Rattle.wit_script_package.specs.Lines.{include_item, interface_entry, key_of, with_export_line, with_exported_function, with_function_line, with_gated_line, with_import_line, with_imported_function, with_include_line, with_line, with_record, with_type_line, with_use}
 use Rattle.wit_script_package.specs.Making.{each_made, field_made, function_made, kind_made}
-use Rattle.wit_script_package.specs.Naming.{foreign_named, interface_named, interface_of, open_interface, open_world, type_at, used_type, world_named}
+use Rattle.wit_script_package.specs.Naming.{OptionalSpan, foreign_named, interface_named, interface_of, open_interface, open_world, type_at, used_type, world_named}
 use Rattle.wit_script_package.specs.declared.draft.Draft.{Draft}
 use Rattle.wit_script_package.specs.declared.draft.LineContext.{LineContext}
 use Rattle.wit_script_package.proofs.Added.{IsNamedKind}
@@ -256,5 +256,5 @@ module _ (p : Draft) (sound : IsSound p) (here : LineContext) (q : Draft) where
 -- a line leaves a package sound
 pub line-sound : (p q : Draft) (said : PackageLine) (gate : Stability) (line : List ℕ) → IsSound p → with_line p said gate line ≡ Some q → IsSound q
 line-sound p q said gate line sound made =
-    let span = step-of (with_placed (with_text p line) said gate) (span_after (length p.contents) line) q made in
+    let span = step-of (λ (s : OptionalSpan). with_gated_line (with_text p line) said (record { gate = gate; span = s })) (span_after (length p.contents) line) q made in
     gated_line (with_text p line) sound (record { gate = gate; span = span.0 }) q said span.2

@@ -1,6 +1,6 @@
 -- What the texts of types make is sound, and refers to types of the owner of what lines add.
 use Rattle.std.proofs.Common.{◌≡◌, ◌≢◌, ◌∙◌, ℕ, ◌<◌, ◌++◌, zero, suc, Bool, true, false, cond, List, [], ◌∷◌, length, Option, Some, None, IfSome, IsSome, slice_get, refl, sym, ap, subst, codes, bytes_eq, flat_map, option_and_then, option_map, option_to_list}
-use Rattle.std.specs.Option.{option_or}
+use Rattle.std.specs.Option.{option_map_or, option_or}
 use Rattle.std.specs.Map.{lookup}
 use Rattle.std.proofs.lemmas.Slice.Eq.{bytes_eq-Decides}
 use Rattle.wit_values.specs.facts.Lists.{slice_get-push}
@@ -43,7 +43,7 @@ use Rattle.wit_script_lines.specs.declared.type_text.Written.TheVariants as writ
 use Rattle.wit_script_package.specs.Adding.{type_with, with_type}
 use Rattle.wit_script_package.specs.Making.{answer_made, around, each_made, field_made, forms_made, function_by, function_made, function_with, handle_argument, kind_made, param_made, type_made, type_of, with_resource, with_root, with_root_at, written_made}
 use Rattle.wit_script_package.specs.Naming.{OptionalSpan, earlier, earlier_in, open_interface, open_world, type_at, type_named, world_type_at}
-use Rattle.wit_script_package.specs.Role.{constructor_resource, freestanding_kind, function_kind_of, is_plain, member_of, method_role, or_group, static_role}
+use Rattle.wit_script_package.specs.Role.{constructor_resource, freestanding_kind, function_kind_of, is_plain, member_of, method_role, static_role}
 use Rattle.wit_script_package.specs.declared.draft.Draft.{Draft}
 use Rattle.wit_script_package.specs.declared.draft.LineContext.{LineContext}
 use Rattle.wit_script_package.specs.declared.draft.Scope.{Scope}
@@ -387,7 +387,7 @@ module _ (p : Draft) (sound : IsSound p) where
   abbrev RoleOwn : Option FunctionKind → Type 0
   RoleOwn o = (does : FunctionKind) → o ≡ Some does → AreOwn p (option_to_list (resource_of does))
 
-  role-group : (o : Option (List ℕ)) (of_rest : List ℕ → Option FunctionKind) (other : Option FunctionKind) → ((rest : List ℕ) → RoleOwn (of_rest rest)) → RoleOwn other → RoleOwn (or_group o of_rest other)
+  role-group : (o : Option (List ℕ)) (of_rest : List ℕ → Option FunctionKind) (other : Option FunctionKind) → ((rest : List ℕ) → RoleOwn (of_rest rest)) → RoleOwn other → RoleOwn (option_map_or of_rest o other)
   role-group (Some rest) of_rest other first second = first rest
   role-group None of_rest other first second = second
 

@@ -1,5 +1,5 @@
 -- What mentions make, one after another.
-use Rattle.std.proofs.Common.{◌≡◌, ℕ, Bool, true, false, cond, not, List, [], ◌∷◌, ◌++◌, length, map, filter, find, slice_get, slice_set, Option, None, Some, is_some, refl, sym, ap, ◌∙◌, bytes_eq, fold, option_and_then, append_assoc, append-nil}
+use Rattle.std.proofs.Common.{◌≡◌, ℕ, Bool, true, false, cond, not, List, [], ◌∷◌, ◌++◌, length, map, filter, find, slice_get, slice_set, Option, None, Some, is_some, refl, sym, ap, ◌∙◌, bytes_eq, fold, option_and_then, append_assoc, append-nil, unwrap_or}
 use Rattle.std.proofs.lemmas.List.{length-map, map-append}
 use Rattle.std.proofs.lemmas.List.Elements.{filter-append}
 use Rattle.std.proofs.lemmas.List.Folds.{find-append}
@@ -16,9 +16,10 @@ use Rattle.wit_data.specs.declared.types.TypeDef.{TypeDef}
 use Rattle.wit_data.specs.declared.types.TypeDefKind.TheVariants as kind
 use Rattle.wit_data.specs.declared.types.TypeOwner.TheVariants as owner
 use Rattle.wit_data.specs.declared.unresolved.AstItem.TheVariants as item
-use Rattle.wit_script_package.specs.Adding.{empty_interface, empty_world, type_with, with_interface_type, with_type, with_type_name_in}
+use Rattle.wit_script_package.specs.Adding.{empty_interface, empty_world, type_with, with_interface_type, with_type}
 use Rattle.wit_script_package.specs.Draft.{new_draft_at, with_newline}
-use Rattle.wit_script_package.specs.Mention.{first_interfaces, first_role, agrees_on_role, known_mentions, first_packages, first_types, first_worlds, firsts, foreign_type, foreign_world, interface_id_of, is_world, mentioned_at, same_item, same_name, same_parent, same_type, type_id_of, used_name, used_type_name, uses_type, world_id_of}
+use Rattle.wit_script_package.specs.Mention.{first_interfaces, first_role, known_mentions, first_packages, first_types, first_worlds, firsts, foreign_type, foreign_world, interface_id_of, is_world, mentioned_at, same_item, same_name, same_parent, same_type, type_id_of, used_type_name, world_id_of}
+use Rattle.wit_script_package.proofs.Parts.{agrees_on_role, uses_type, with_type_name_in}
 use Rattle.wit_script_package.specs.steps.Mentioning.{fits, is_world_item, with_counted, with_dep_span, with_foreign, with_foreign_as, with_foreign_gate, with_foreign_type, with_gate, with_item_gate, with_mention, with_mention_of, with_package_gate, with_type_span, with_use_as}
 use Rattle.wit_script_package.specs.Naming.{OptionalSpan, foreign_named}
 use Rattle.wit_script_package.specs.declared.draft.Draft.{Draft}
@@ -57,7 +58,7 @@ module _ (all : List Mention) where
 
   -- the name of a type of an interface
   abbrev named_type : Mention → List ℕ × ℕ
-  named_type t = (used_name (used_type_name t.kind), type_id_of all t)
+  named_type t = (unwrap_or (used_type_name t.kind) [], type_id_of all t)
 
   -- an interface with those of these types that are of it
   abbrev interface_by : List Mention → Mention → Interface
@@ -397,9 +398,9 @@ module _ (all : List Mention) where
           not_world = ap is_world is
 
           -- the name of a type in the interface of the mention
-          type-told : (t : Mention) → uses_type t ≡ true → same_item m t ≡ true → bytes_eq n (used_name (used_type_name t.kind)) ≡ same_type m t
+          type-told : (t : Mention) → uses_type t ≡ true → same_item m t ≡ true → bytes_eq n (unwrap_or (used_type_name t.kind) []) ≡ same_type m t
           type-told t has there = rw (there, is) (by t.kind has) where
-            by : (k : MentionKind) → is_some (used_type_name k) ≡ true → bytes_eq n (used_name (used_type_name k)) ≡ same_name (Some n) (used_type_name k)
+            by : (k : MentionKind) → is_some (used_type_name k) ≡ true → bytes_eq n (unwrap_or (used_type_name k) []) ≡ same_name (Some n) (used_type_name k)
             by taken.Interface has = cc
             by (taken.Type_ other) has = refl
             by taken.World has = cc
@@ -488,7 +489,7 @@ module _ (all : List Mention) where
               → interface_by (ts ++ m ∷ []) the_one ≡ record (interface_by ts the_one) { types = (interface_by ts the_one).types ++ (n, length half.types) ∷ [] }
           with-type none =
               let entry : named_type m ≡ (n, length half.types) =
-              ap (λ (k : MentionKind). (used_name (used_type_name k), type_id_of all m)) is ∙ ap (λ (k : ℕ). (n, k)) (type-place none ∙ sym (length-map ts (foreign_type all))) in
+              ap (λ (k : MentionKind). (unwrap_or (used_type_name k) [], type_id_of all m)) is ∙ ap (λ (k : ℕ). (n, k)) (type-place none ∙ sym (length-map ts (foreign_type all))) in
               let listed : map named_type (filter (same_item the_one) (ts ++ m ∷ [])) ≡ map named_type (filter (same_item the_one) ts) ++ (n, length half.types) ∷ [] =
               ap (map named_type) (filter-in (same_item the_one) ts m (item-turn the_one m ∙ the-one-same)) ∙ map-append named_type (filter (same_item the_one) ts) (m ∷ [])
               ∙ ap (λ (e : List ℕ × ℕ). map named_type (filter (same_item the_one) ts) ++ e ∷ []) entry in

@@ -1,13 +1,13 @@
 -- Lines that mention nothing of another package, by their first token and by whether they have a `:`.
 use Rattle.std.proofs.Common.{◌≡◌, ◌||◌, ◌&&◌, ◌==◌, not, ◌-◌, ◌+◌, ℕ, zero, suc, Bool, true, false, cond, List, [], ◌∷◌, Option, None, Some, codes, length, take, drop, filter, slice_get, refl, ap, sym, subst, ◌∙◌, bytes_eq, nat_lt}
 use Rattle.std.specs.List.{AllByRecursion, after_first, before_first, list_any, onto_first, position_or_len, slice_split}
-use Rattle.std.specs.Option.{option_and_then, option_map}
+use Rattle.std.specs.Option.{option_and_then, option_map, option_map_or}
 use Rattle.wit_names.specs.UsePath.{use_path_of}
 use Rattle.wit_names.specs.declared.use_path.ParsedUsePath.{ParsedUsePath}
 use Rattle.wit_data.specs.declared.stability.Stability.{Stability}
 use Rattle.wit_names.specs.declared.use_path.ParsedUsePath.TheVariants as path
 use Rattle.wit_script_lines.specs.Line.{tokens_of}
-use Rattle.wit_script_lines.specs.PackageLine.{each_of, entry_by, entry_tokens, gate_of_line, has_gate, include_line_of, named_line_of, package_line_by, record_line_of, rename_of, signed_line_of, type_line_of, typed_name_of, ungated_of, use_line_of, use_line_with}
+use Rattle.wit_script_lines.specs.PackageLine.{each_of, entry_by, entry_tokens, gate_of_line, is_gate, last_of, include_line_of, named_line_of, package_line_by, record_line_of, rename_of, signed_line_of, type_line_of, typed_name_of, ungated_of, use_line_of, use_line_with}
 use Rattle.wit_script_lines.specs.Statement.{gated_line_by, statement_of, statement_of_tokens}
 use Rattle.wit_script_lines.specs.Token.{part_of, path_of, split_at}
 use Rattle.wit_script_lines.specs.TypeText.{type_text_of}
@@ -55,7 +55,7 @@ colon-free-taken (suc n) [] all = tt
 colon-free-taken (suc n) (x ∷ xs) all = (all.0, colon-free-taken n xs all.1)
 
 colon-free-ungated : (xs : List (List ℕ)) → AllByRecursion IsColonFree xs → AllByRecursion IsColonFree (ungated_of xs)
-colon-free-ungated xs all = by (has_gate xs) where
+colon-free-ungated xs all = by (option_map_or is_gate (last_of xs) false) where
   by : (b : Bool) → AllByRecursion IsColonFree (cond b (take (length xs - 1) xs) xs)
   by true = colon-free-taken (length xs - 1) xs all
   by false = all

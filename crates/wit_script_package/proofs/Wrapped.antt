@@ -4,9 +4,13 @@ use Rattle.std.proofs.lemmas.Grind.{take_at_read}
 use Rattle.wit_data.specs.declared.types.TypeDefKind.{TypeDefKind}
 use Rattle.wit_data.specs.declared.types.Type_.{Type_}
 use Rattle.wit_script_lines.specs.declared.type_text.Wrap.{Wrap}
-use Rattle.wit_script_package.specs.Making.{around, around_made, forms_made, type_of}
+use Rattle.wit_script_package.specs.Making.{around, forms_made, type_of}
 use Rattle.wit_script_package.specs.declared.draft.Draft.{Draft}
 use Rattle.wit_script_package.specs.declared.draft.LineContext.{LineContext}
+
+-- a form around a type of this kind
+abbrev around_made : Wrap → LineContext → TypeDefKind × Draft → TypeDefKind × Draft
+around_made form here made = let inner = type_of made.1 made.0 here in (around form inner.0, inner.1)
 
 -- the innermost form
 innermost : (p : Draft) (forms : List Wrap) (form : Wrap) (made : TypeDefKind) (here : LineContext)

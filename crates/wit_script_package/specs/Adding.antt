@@ -70,16 +70,15 @@ with_type p def =
     { types = p.types ++ def ∷ []; roots = p.roots ++ root_of p (length p.types) def.kind ∷ [] }
 
 -- the name of the next type in the interface at a place, where it has no type of that name
-abbrev pub with_type_name_in : Draft → List ℕ → ℕ → Interface → Option Draft
-with_type_name_in p name at interface =
+abbrev pub with_type_name : Draft → List ℕ → ℕ → Option Draft
+with_type_name p name at =
+    option_and_then (λ (interface : Interface).
     if is_some (lookup (bytes_eq name) interface.types) then None
     else Some (record p {
       interfaces = slice_set p.interfaces at
           (record interface { types = interface.types ++ (name, length p.types) ∷ [] });
-    })
-
-abbrev pub with_type_name : Draft → List ℕ → ℕ → Option Draft
-with_type_name p name at = option_and_then (with_type_name_in p name at) (slice_get p.interfaces at)
+    }))
+    (slice_get p.interfaces at)
 
 -- one more type of the interface at a place
 abbrev pub with_interface_type : Draft → List ℕ → TypeDefKind → LineContext → ℕ → Option Draft
@@ -88,32 +87,30 @@ with_interface_type p name made here at =
     (with_type_name p name at)
 
 -- one more import of the world at a place, under a key that it doesn't import yet
-abbrev pub with_import_in : Draft → WorldKey → WorldItem → ℕ → World → Option Draft
-with_import_in p k entry at world =
+abbrev pub with_import_at : Draft → WorldKey → WorldItem → ℕ → Option Draft
+with_import_at p k entry at =
+    option_and_then (λ (world : World).
     if is_some (lookup (same_key k) world.imports) then None
     else Some (record p {
       worlds = slice_set p.worlds at
           (record world { imports = world.imports ++ (k, entry) ∷ [] });
-    })
-
-abbrev pub with_import_at : Draft → WorldKey → WorldItem → ℕ → Option Draft
-with_import_at p k entry at = option_and_then (with_import_in p k entry at) (slice_get p.worlds at)
+    }))
+    (slice_get p.worlds at)
 
 -- one more import of the world into which lines go
 abbrev pub with_import : Draft → WorldKey → WorldItem → Option Draft
 with_import p k entry = option_and_then (with_import_at p k entry) (open_world p)
 
 -- one more export of the world at a place, under a key that it doesn't export yet
-abbrev pub with_export_in : Draft → WorldKey → WorldItem → ℕ → World → Option Draft
-with_export_in p k entry at world =
+abbrev pub with_export_at : Draft → WorldKey → WorldItem → ℕ → Option Draft
+with_export_at p k entry at =
+    option_and_then (λ (world : World).
     if is_some (lookup (same_key k) world.exports) then None
     else Some (record p {
       worlds = slice_set p.worlds at
           (record world { exports = world.exports ++ (k, entry) ∷ [] });
-    })
-
-abbrev pub with_export_at : Draft → WorldKey → WorldItem → ℕ → Option Draft
-with_export_at p k entry at = option_and_then (with_export_in p k entry at) (slice_get p.worlds at)
+    }))
+    (slice_get p.worlds at)
 
 -- one more export of the world into which lines go
 abbrev pub with_export : Draft → WorldKey → WorldItem → Option Draft
@@ -137,16 +134,15 @@ abbrev pub with_named : Draft → List ℕ → TypeDefKind → LineContext → O
 with_named p name made here = with_named_in p p.scope name made here
 
 -- one more function of the interface at a place, where it has no function of that name
-abbrev pub with_function_in : Draft → Function → ℕ → Interface → Option Draft
-with_function_in p f at interface =
+abbrev pub with_function_at : Draft → Function → ℕ → Option Draft
+with_function_at p f at =
+    option_and_then (λ (interface : Interface).
     if is_some (lookup (bytes_eq f.name) interface.functions) then None
     else Some (record p {
       interfaces = slice_set p.interfaces at
           (record interface { functions = interface.functions ++ (f.name, f) ∷ [] });
-    })
-
-abbrev pub with_function_at : Draft → Function → ℕ → Option Draft
-with_function_at p f at = option_and_then (with_function_in p f at) (slice_get p.interfaces at)
+    }))
+    (slice_get p.interfaces at)
 
 -- one more function of the interface into which lines go
 abbrev pub with_function : Draft → Function → Option Draft

@@ -107,11 +107,9 @@ with_gated_line p (says.ImportFunction said) here = with_imported_function p sai
 with_gated_line p (says.ExportFunction said) here = with_exported_function p said here
 with_gated_line p (says.Include from names) here = with_include_line p from names here
 
--- what a line says, added, where it stands here
-abbrev pub with_placed : Draft → PackageLine → Stability → OptionalSpan → Option Draft
-with_placed p said gate span = with_gated_line p said (record { gate = gate; span = span })
-
 -- a line, added: its text to the file, and what it says
 abbrev pub with_line : Draft → PackageLine → Stability → List ℕ → Option Draft
 with_line p said gate line =
-    option_and_then (with_placed (with_text p line) said gate) (span_after (length p.contents) line)
+    option_and_then (λ (span : OptionalSpan).
+    with_gated_line (with_text p line) said (record { gate = gate; span = span }))
+    (span_after (length p.contents) line)

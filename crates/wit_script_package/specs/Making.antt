@@ -71,15 +71,12 @@ around wrap.Option ty = kind.Option ty
 around wrap.Future ty = kind.Future (Some ty)
 around wrap.Stream ty = kind.Stream (Some ty)
 
--- a form around a type of this kind
-abbrev pub around_made : Wrap → LineContext → TypeDefKind × Draft → TypeDefKind × Draft
-around_made form here made =
-    let inner = type_of made.1 made.0 here in (around form inner.0, inner.1)
-
 -- forms around a type of this kind, the innermost last
 abbrev pub forms_made : Draft → List Wrap → TypeDefKind → LineContext → TypeDefKind × Draft
 forms_made p [] made here = (made, p)
-forms_made p (form ∷ forms) made here = around_made form here (forms_made p forms made here)
+forms_made p (form ∷ forms) made here =
+    let inside = forms_made p forms made here in
+    let inner = type_of inside.1 inside.0 here in (around form inner.0, inner.1)
 
 -- the kind of a type that is named by a line
 abbrev pub kind_made : Draft → TypeText → LineContext → Option (TypeDefKind × Draft)

@@ -1,6 +1,6 @@
 -- What the lines of a package mention of other packages, and what the package knows of it. What is foreign stands first
 -- in the lists of a package, in the order of its first mention.
-use Rattle.std.specs.Prelude.{ℕ, ◌&&◌, not, Bool, true, false, List, [], ◌∷◌, map, filter, Option, Some, None, is_some, if◌then◌else◌, bytes_eq}
+use Rattle.std.specs.Prelude.{ℕ, ◌&&◌, not, Bool, true, false, List, [], ◌∷◌, map, filter, Option, Some, None, is_some, if◌then◌else◌, bytes_eq, unwrap_or}
 use Rattle.std.specs.List.{position_or_len}
 use Rattle.wit_data.specs.Foreign.{ForeignItem, ForeignItems}
 use Rattle.wit_names.specs.PackageName.{same_package}
@@ -56,15 +56,11 @@ same_parent a b = same_package a.parent b.parent
 abbrev pub same_item : Mention → Mention → Bool
 same_item a b = same_parent a b && bytes_eq a.name b.name
 
--- a type is used, and has this name
-abbrev pub is_type_name : Option (List ℕ) → List ℕ → Bool
-is_type_name None name = false
-is_type_name (Some used) name = bytes_eq used name
-
 -- two types are used, of one name
 abbrev pub same_name : Option (List ℕ) → Option (List ℕ) → Bool
 same_name a None = false
-same_name a (Some name) = is_type_name a name
+same_name None (Some name) = false
+same_name (Some used) (Some name) = bytes_eq used name
 
 -- two uses of one type
 abbrev pub same_type : Mention → Mention → Bool
@@ -85,12 +81,8 @@ first_interfaces ms = firsts same_item (filter (λ m. not (is_world m.kind)) ms)
 abbrev pub first_worlds : List Mention → List Mention
 first_worlds ms = firsts same_item (filter (λ m. is_world m.kind) ms)
 
--- a mention uses a type
-abbrev pub uses_type : Mention → Bool
-uses_type m = is_some (used_type_name m.kind)
-
 abbrev pub first_types : List Mention → List Mention
-first_types ms = firsts same_type (filter uses_type ms)
+first_types ms = firsts same_type (filter (λ m. is_some (used_type_name m.kind)) ms)
 
 -- the place of a foreign interface, of a foreign world, of a foreign type
 abbrev pub interface_id_of : List Mention → Mention → ℕ
@@ -113,18 +105,6 @@ foreign_item ms m = (
   ),
 )
 
--- what is named of other packages, under the name of each
-abbrev pub foreign_deps_of : List Mention → ForeignItems
-foreign_deps_of ms =
-    map (λ (p : Mention).
-    (p.parent, map (foreign_item ms) (firsts same_item (filter (same_parent p) ms))))
-    (first_packages ms)
-
--- the name of a type that is used
-abbrev pub used_name : Option (List ℕ) → List ℕ
-used_name None = []
-used_name (Some name) = name
-
 -- where an interface or a world of another package stands: at its first mention, without a gate
 abbrev pub mentioned_at : Mention → LineContext
 mentioned_at m = record { gate = Unknown; span = m.span }
@@ -133,7 +113,7 @@ mentioned_at m = record { gate = Unknown; span = m.span }
 abbrev pub foreign_interface : List Mention → Mention → Interface
 foreign_interface ms m =
     record (empty_interface m.name (mentioned_at m)) {
-      types = map (λ (t : Mention). (used_name (used_type_name t.kind), type_id_of ms t))
+      types = map (λ (t : Mention). (unwrap_or (used_type_name t.kind) [], type_id_of ms t))
           (filter (same_item m) (first_types ms));
     }
 
@@ -147,10 +127,12 @@ foreign_type ms m =
     type_with (used_type_name m.kind) kind.Unknown (owner.Interface (interface_id_of ms m))
     (record { gate = m.gate; span = m.span })
 
--- what is known of other packages
+-- what is known of other packages: what is named of them, under the name of each
 abbrev pub foreign_of : List Mention → Foreign
 foreign_of ms = record {
-  deps = foreign_deps_of ms;
+  deps = map (λ (p : Mention).
+      (p.parent, map (foreign_item ms) (firsts same_item (filter (same_parent p) ms))))
+      (first_packages ms);
   dep_spans = map (λ (m : Mention). m.span) (first_packages ms);
   type_spans = map (λ (m : Mention). m.span) (first_types ms);
 }
@@ -160,10 +142,7 @@ abbrev pub first_role : Mention → List Mention → Bool
 first_role m [] = is_world m.kind
 first_role m (n ∷ ms) = if same_item m n then is_world n.kind else first_role m ms
 
--- the first line that names it takes it for what this line does
-abbrev pub agrees_on_role : List Mention → Mention → Bool
-agrees_on_role ms m = if is_world m.kind then first_role m ms else not (first_role m ms)
-
 -- the mentions that count: a line that takes an item for what its first mention doesn't isn't understood
 abbrev pub known_mentions : List Mention → List Mention
-known_mentions ms = filter (agrees_on_role ms) ms
+known_mentions ms =
+    filter (λ m. if is_world m.kind then first_role m ms else not (first_role m ms)) ms

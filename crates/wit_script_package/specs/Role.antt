@@ -2,6 +2,7 @@
 -- `[method]` or `[static]` followed by `[get]` or `[set]`. What follows them has at least one byte, and doesn't begin with
 -- a `[` once more.
 use Rattle.std.specs.Prelude.{ℕ, ◌==◌, not, Bool, false, List, [], ◌∷◌, Option, Some, None, option_and_then, codes, if◌then◌else◌, option_map}
+use Rattle.std.specs.Option.{option_map_or}
 use Rattle.wit_data.specs.declared.function.FunctionKind.{FunctionKind}
 use Rattle.wit_data.specs.declared.function.FunctionKind.TheVariants as role
 use Rattle.wit_script_lines.specs.Token.{after_prefix, split_at}
@@ -28,40 +29,34 @@ member_of p rest =
 abbrev pub freestanding : FunctionKind → List ℕ → Option FunctionKind
 freestanding does rest = if is_plain rest then Some does else None
 
--- what comes of what follows a group, where there is that group, or else another thing
-abbrev pub or_group : Option (List ℕ) → (List ℕ → Option FunctionKind) → Option FunctionKind
-    → Option FunctionKind
-or_group (Some rest) of_rest other = of_rest rest
-or_group None of_rest other = other
-
 -- what follows `[method]`
 abbrev pub method_role : Draft → List ℕ → Option FunctionKind
 method_role p rest =
-    or_group (after_prefix (codes "[get]") rest)
-    (λ more. option_map role.MethodGetter (member_of p more))
-    (or_group (after_prefix (codes "[set]") rest)
-    (λ more. option_map role.MethodSetter (member_of p more))
+    option_map_or (λ more. option_map role.MethodGetter (member_of p more))
+    (after_prefix (codes "[get]") rest)
+    (option_map_or (λ more. option_map role.MethodSetter (member_of p more))
+    (after_prefix (codes "[set]") rest)
     (option_map role.Method (member_of p rest)))
 
 -- what follows `[static]`
 abbrev pub static_role : Draft → List ℕ → Option FunctionKind
 static_role p rest =
-    or_group (after_prefix (codes "[get]") rest)
-    (λ more. option_map role.StaticGetter (member_of p more))
-    (or_group (after_prefix (codes "[set]") rest)
-    (λ more. option_map role.StaticSetter (member_of p more))
+    option_map_or (λ more. option_map role.StaticGetter (member_of p more))
+    (after_prefix (codes "[get]") rest)
+    (option_map_or (λ more. option_map role.StaticSetter (member_of p more))
+    (after_prefix (codes "[set]") rest)
     (option_map role.Static (member_of p rest)))
 
 -- a name without the groups of a resource
 abbrev pub freestanding_kind : List ℕ → Option FunctionKind
 freestanding_kind name =
-    or_group (after_prefix (codes "[get]") name) (freestanding role.Getter)
-    (or_group (after_prefix (codes "[set]") name) (freestanding role.Setter)
+    option_map_or (freestanding role.Getter) (after_prefix (codes "[get]") name)
+    (option_map_or (freestanding role.Setter) (after_prefix (codes "[set]") name)
     (freestanding role.Freestanding name))
 
 abbrev pub function_kind_of : Draft → List ℕ → Option FunctionKind
 function_kind_of p name =
-    or_group (after_prefix (codes "[constructor]") name)
-    (λ rest. option_map role.Constructor (constructor_resource p rest))
-    (or_group (after_prefix (codes "[method]") name) (method_role p) (or_group
-    (after_prefix (codes "[static]") name) (static_role p) (freestanding_kind name)))
+    option_map_or (λ rest. option_map role.Constructor (constructor_resource p rest))
+    (after_prefix (codes "[constructor]") name)
+    (option_map_or (method_role p) (after_prefix (codes "[method]") name)
+    (option_map_or (static_role p) (after_prefix (codes "[static]") name) (freestanding_kind name)))

@@ -1,45 +1,77 @@
--- Lists that are filled at one place after another.
-use Rattle.std.proofs.Common.{◌≡◌, ◌≢◌, ◌∙◌, ◌<◌, ◌||◌, inl, inr, ℕ, Bool, true, false, List, [], ◌∷◌, ◌++◌, Option, None, length, get_or, nat_eq, set, refl, sym, ap, subst, arith, if◌then◌else◌}
+-- Tables that tell of one id after another.
+use Rattle.std.proofs.Common.{◌≡◌, ◌∙◌, ◌||◌, ℕ, Bool, true, false, List, [], ◌∷◌, ◌++◌, Option, None, Some, nat_eq, cond, refl, sym, ap, if◌then◌else◌}
 use Rattle.std.specs.List.{list_any}
-use Rattle.std.proofs.lemmas.Bool.{cases_order, ne_eqb, eq-eqb}
-use Rattle.std.proofs.lemmas.List.{get_or-set_other, get_or-set_same, length-set}
+use Rattle.std.specs.Map.{lookup}
+use Rattle.std.specs.Option.{option_or}
+use Rattle.std.proofs.lemmas.Bool.{eqb-true}
 use Rattle.std.proofs.lemmas.List.Folds.{list_any-append}
 use Rattle.wit_semver.specs.steps.Replacing.{IsFilled}
 
-module _ (f : ℕ → Option ℕ) (n : ℕ) where
+-- what is told with one pair more
+lookup_last : (test : ℕ → Bool) (found : List (ℕ × ℕ)) (k v : ℕ) → lookup test (found ++ (k, v) ∷ []) ≡ option_or (lookup test found) (if test k then Some v else None)
+lookup_last test [] k v = refl
+lookup_last test (e ∷ found) k v = by (test e.0) (lookup_last test found k v)
+  where
+    by : (b : Bool) → lookup test (found ++ (k, v) ∷ []) ≡ option_or (lookup test found) (if test k then Some v else None)
+        → cond b (Some e.1) (lookup test (found ++ (k, v) ∷ [])) ≡ option_or (cond b (Some e.1) (lookup test found)) (if test k then Some v else None)
+    by true rest = refl
+    by false rest = rest
+
+module _ (f : ℕ → Option ℕ) (ids : List ℕ) (k : ℕ) (found : List (ℕ × ℕ)) (filled : IsFilled f ids found) where
   abbrev value : Bool → ℕ → Option ℕ
   value b i = if b then f i else None
 
-  -- one place more
-  pub filled-next : (ids : List ℕ) (k : ℕ) (found new : List (Option ℕ)) → k < n → IsFilled f ids n found → new ≡ set found k (f k) → IsFilled f (ids ++ k ∷ []) n new
-  filled-next ids k found new low filled is = (ap length is ∙ length-set found k (f k) ∙ filled.0, each)
+  among : (i : ℕ) → list_any (nat_eq i) (ids ++ k ∷ []) ≡ list_any (nat_eq i) ids || (nat_eq i k || false)
+  among i = list_any-append (nat_eq i) ids (k ∷ [])
+
+  -- an id that leads nowhere is told as one that isn't there
+  pub filled-nowhere : None ≡ f k → IsFilled f (ids ++ k ∷ []) found
+  filled-nowhere is i = filled i ∙ by (list_any (nat_eq i) ids) (nat_eq i k) refl ∙ sym (ap (λ b. value b i) (among i))
     where
-      among : (i : ℕ) → list_any (nat_eq i) (ids ++ k ∷ []) ≡ list_any (nat_eq i) ids || (nat_eq i k || false)
-      among i = list_any-append (nat_eq i) ids (k ∷ [])
+      by : (b c : Bool) → nat_eq i k ≡ c → value b i ≡ value (b || (c || false)) i
+      by true c same = refl
+      by false true same = is ∙ ap f (sym (eqb-true i k same))
+      by false false same = refl
 
-      here : (b c : Bool) → c ≡ true → (b || (c || false)) ≡ true
-      here true c on = refl
-      here false true on = refl
-      here false false on = cc
+  -- one that is told of leads where it leads
+  pub filled-known : (v : ℕ) → lookup (nat_eq k) found ≡ Some v → IsFilled f (ids ++ k ∷ []) found
+  filled-known v told i = filled i ∙ by (list_any (nat_eq i) ids) (nat_eq i k) refl refl ∙ sym (ap (λ b. value b i) (among i))
+    where
+      nothing_told : (w : ℕ) → Some w ≡ None → ⊥
+      nothing_told w same = cc
 
-      other : (b c : Bool) → c ≡ false → (b || (c || false)) ≡ b
-      other true c off = refl
-      other false true off = cc
-      other false false off = refl
+      by : (b c : Bool) → list_any (nat_eq i) ids ≡ b → nat_eq i k ≡ c → value b i ≡ value (b || (c || false)) i
+      by true c is same = refl
+      by false true is same =
+          let one = eqb-true i k same in
+          absurd (nothing_told v (sym told ∙ ap (λ j. lookup (nat_eq j) found) (sym one) ∙ filled i ∙ ap (λ b. value b i) is))
+      by false false is same = refl
 
-      at_k : (i : ℕ) → i ≡ k → get_or new i None ≡ value (list_any (nat_eq i) (ids ++ k ∷ [])) i
-      at_k i same =
-          let read : get_or (set found k (f k)) k None ≡ f k = get_or-set_same found k (f k) None (subst (λ (m : ℕ). k < m) (sym filled.0) low) in
-          ap (λ (xs : List (Option ℕ)). get_or xs i None) is ∙ ap (λ (j : ℕ). get_or (set found k (f k)) j None) same ∙ read ∙ ap f (sym same)
-          ∙ sym (ap (λ (b : Bool). value b i) (among i ∙ here (list_any (nat_eq i) ids) (nat_eq i k) (eq-eqb i k same)))
+  -- one more that leads somewhere
+  pub filled-more : (v : ℕ) → Some v ≡ f k → lookup (nat_eq k) found ≡ None → IsFilled f (ids ++ k ∷ []) (found ++ (k, v) ∷ [])
+  filled-more v is new i =
+      lookup_last (nat_eq i) found k v ∙ by (nat_eq i k) refl ∙ sym (ap (λ b. value b i) (among i))
+    where
+      here : (b : Bool) → (b || (true || false)) ≡ true
+      here true = refl
+      here false = refl
 
-      apart : (i : ℕ) → i ≢ k → get_or new i None ≡ value (list_any (nat_eq i) (ids ++ k ∷ [])) i
-      apart i differ =
-          ap (λ (xs : List (Option ℕ)). get_or xs i None) is ∙ get_or-set_other found k i (f k) None differ ∙ filled.1 i
-          ∙ sym (ap (λ (b : Bool). value b i) (among i ∙ other (list_any (nat_eq i) ids) (nat_eq i k) (ne_eqb i k differ)))
+      left : (b : Bool) → (b || (false || false)) ≡ b
+      left true = refl
+      left false = refl
 
-      each : (i : ℕ) → get_or new i None ≡ value (list_any (nat_eq i) (ids ++ k ∷ [])) i
-      each i = elim (cases_order i k) [
-        | inl same ↦ at_k i same
-        | inr order ↦ apart i (elim order [ inl less ↦ (λ same. omega (arith, less, same)) | inr more ↦ (λ same. omega (arith, more, same)) ])
-      ]
+      none_or : (o : Option ℕ) → option_or o None ≡ o
+      none_or None = refl
+      none_or (Some x) = refl
+
+      by : (c : Bool) → nat_eq i k ≡ c → option_or (lookup (nat_eq i) found) (if nat_eq i k then Some v else None) ≡ value (list_any (nat_eq i) ids || (nat_eq i k || false)) i
+      by true same =
+          let one = eqb-true i k same in
+          ap (λ c. option_or (lookup (nat_eq i) found) (if c then Some v else None)) same
+          ∙ ap (λ o. option_or o (Some v)) (ap (λ j. lookup (nat_eq j) found) one ∙ new)
+          ∙ is ∙ ap f (sym one)
+          ∙ sym (ap (λ c. value (list_any (nat_eq i) ids || (c || false)) i) same ∙ ap (λ b. value b i) (here (list_any (nat_eq i) ids)))
+      by false differ =
+          ap (λ c. option_or (lookup (nat_eq i) found) (if c then Some v else None)) differ
+          ∙ none_or (lookup (nat_eq i) found) ∙ filled i
+          ∙ sym (ap (λ c. value (list_any (nat_eq i) ids || (c || false)) i) differ ∙ ap (λ b. value b i) (left (list_any (nat_eq i) ids)))

@@ -1,5 +1,5 @@
 -- The imports that stay, one after another.
-use Rattle.std.proofs.Common.{◌≡◌, ◌∙◌, ◌++◌, ◌+◌, ◌||◌, ◌∷◌, [], ℕ, Bool, true, false, List, Option, None, Some, filter, get_or, is_some, take, slice_get, refl, sym, ap, if◌then◌else◌}
+use Rattle.std.proofs.Common.{◌≡◌, ◌∙◌, ◌++◌, ◌+◌, ◌||◌, ◌∷◌, [], ℕ, Bool, true, false, List, None, Some, filter, is_some, nat_eq, take, slice_get, refl, sym, ap, if◌then◌else◌}
 use Rattle.std.proofs.lemmas.List.{append-nil}
 use Rattle.std.proofs.lemmas.List.Concat.{flat_map-append}
 use Rattle.std.specs.List.{IsDistinct, flat_map, list_any}
@@ -20,19 +20,19 @@ any_same : (p q : ℕ → Bool) → ((i : ℕ) → p i ≡ q i) → (ids : List 
 any_same p q same [] = refl
 any_same p q same (i ∷ ids) = ap (λ (b : Bool). b || list_any p ids) (same i) ∙ ap (λ (b : Bool). q i || b) (any_same p q same ids)
 
-module _ (u : SemverMerge) (found : List (Option ℕ)) (are : AreReplacements u found) where
-  is_told : (i : ℕ) → is_some (get_or found i None) ≡ is_replaced u i
-  is_told i = ap is_some (are.1 i) ∙ by (is_replaced u i)
+module _ (u : SemverMerge) (found : List (ℕ × ℕ)) (are : AreReplacements u found) where
+  is_told : (i : ℕ) → is_some (lookup (nat_eq i) found) ≡ is_replaced u i
+  is_told i = ap is_some (are i) ∙ by (is_replaced u i)
     where
       by : (b : Bool) → is_some (if b then Some (newest u i) else None) ≡ b
       by true = refl
       by false = refl
 
   -- an entry is one that stays or not, as its key tells
-  pub stays_is : (k : WorldKey) (b : Bool) (e : Entry) → e.0 ≡ k → b ≡ list_any (λ i. is_some (get_or found i None)) (key_interface k) → is_replaced_entry u e ≡ b
+  pub stays_is : (k : WorldKey) (b : Bool) (e : Entry) → e.0 ≡ k → b ≡ list_any (λ i. is_some (lookup (nat_eq i) found)) (key_interface k) → is_replaced_entry u e ≡ b
   stays_is k b e same is =
       ap (λ (j : WorldKey). list_any (is_replaced u) (key_interface j)) same
-      ∙ sym (any_same (λ i. is_some (get_or found i None)) (is_replaced u) is_told (key_interface k)) ∙ sym is
+      ∙ sym (any_same (λ i. is_some (lookup (nat_eq i) found)) (is_replaced u) is_told (key_interface k)) ∙ sym is
 
 -- the key of an entry is new among those before it that stay
 pub staying_is_new : (p : Entry → Bool) (es : List Entry) (i : ℕ) (e : Entry) → IsDistinct eq-value.it (keys_of es) → slice_get es i ≡ Some e → lookup (eq-value.it e.0) (filter p (take i es)) ≡ None

@@ -1,7 +1,7 @@
 -- What is made beside a graph, where new entries are found: the imports of the world alone where no type names another one,
 -- and else the graph that has them.
-use Rattle.std.proofs.Common.{◌≡◌, ◌∙◌, ◌⊎◌, inl, inr, ℕ, zero, suc, false, List, [], ◌∷◌, Option, None, Some, get_or, is_some, slice_set, refl, sym, ap, subst}
-use Rattle.std.specs.List.{list_any}
+use Rattle.std.proofs.Common.{◌≡◌, ◌∙◌, ◌⊎◌, inl, inr, ℕ, List, [], ◌∷◌, Option, None, length, nat_eq, slice_set, refl, sym, ap, subst, arith}
+use Rattle.std.specs.Map.{lookup}
 use Rattle.std.specs.Option.{option_map_or}
 use Rattle.wit_names.specs.declared.track.TrackRule.{TrackRule}
 use Rattle.wit_data.specs.declared.world.World.{World}
@@ -18,14 +18,12 @@ use Rattle.wit_semver.specs.steps.Replacing.{AreNewEntries, with_imports, with_l
 use Rattle.wit_semver.proofs.Elaborates.{accepted_from, can_settle, cause_from, semver_merged_from}
 use Rattle.wit_semver.proofs.NewEntries.{relisted_is, target_is}
 
--- where no place has a value, none is read
-none_read : (targets : List (Option ℕ)) (t : ℕ) → list_any is_some targets ≡ false → get_or targets t None ≡ None
+-- nothing is told where there is no pair
+none_read : (targets : List (ℕ × ℕ)) (t : ℕ) → length targets ≡ 0 → lookup (nat_eq t) targets ≡ None
 none_read [] t off = refl
-none_read (Some new ∷ targets) t off = cc
-none_read (None ∷ targets) zero off = refl
-none_read (None ∷ targets) (suc t) off = none_read targets t off
+none_read (e ∷ targets) t off = absurd (omega (arith, off))
 
-module _ (rule : TrackRule) (g : Graph) (w : ℕ) (imports : List Entry) (targets : List (Option ℕ)) (valid : IsValid g) (stay_valid : SemverMergesStayValid) (found : AreNewEntries rule g w imports targets) where
+module _ (rule : TrackRule) (g : Graph) (w : ℕ) (imports : List Entry) (targets : List (ℕ × ℕ)) (valid : IsValid g) (stay_valid : SemverMergesStayValid) (found : AreNewEntries rule g w imports targets) where
   abbrev u : SemverMerge
   u = semver_merge rule g found.world
 
@@ -35,7 +33,7 @@ module _ (rule : TrackRule) (g : Graph) (w : ℕ) (imports : List Entry) (target
 
   -- ---- where each type names what it named
 
-  module _ (same : SameTypesKeepWorlds) (off : list_any is_some targets ≡ false) where
+  module _ (same : SameTypesKeepWorlds) (off : length targets ≡ 0) where
     retargets_none : RetargetsNone u
     retargets_none t = sym (target_is u targets found.targets_are t) ∙ none_read targets t off
 

@@ -25,7 +25,7 @@ use Rattle.wit_data.specs.declared.world.WorldKey.{WorldKey}
 use Rattle.wit_data.specs.declared.world.WorldItem.TheVariants as item
 use Rattle.wit_data.specs.declared.world.WorldKey.TheVariants as key
 use Rattle.wit_elaboration.specs.AllElaborated.{all_elaborated}
-use Rattle.wit_elaboration.specs.Elaborated.{Elaborated, dependency_of, elaborated_exports, elaborated_imports, export_needs, import_with_needs, inherited_by_export, with_elaborated_lists, without_span}
+use Rattle.wit_elaboration.specs.Elaborated.{Elaborated, elaborated_exports, elaborated_imports, export_needs, import_with_needs, inherited_by_export, with_elaborated_lists, without_span}
 use Rattle.wit_elaboration.specs.Elaboration.{graph_uses}
 use Rattle.wit_elaboration.specs.Entries.{Entry, by_class, fresh_entries, key_interface, keyed_interfaces, role_of}
 use Rattle.wit_elaboration.specs.Imported.{HasTransitiveConflict, is_exported}

@@ -1,5 +1,6 @@
 -- Types that lack what they use, one after another; interfaces that disagree with what replaces them.
-use Rattle.std.proofs.Common.{◌≡◌, ◌∙◌, ◌<◌, ◌++◌, ◌∷◌, [], ℕ, Bool, true, false, List, Option, None, Some, get_or, length, slice_get, inl, inr, refl, sym, ap, subst, if◌then◌else◌}
+use Rattle.std.proofs.Common.{◌≡◌, ◌∙◌, ◌<◌, ◌++◌, ◌∷◌, [], ℕ, Bool, true, false, List, None, Some, get_or, length, nat_eq, slice_get, inl, inr, refl, sym, ap, subst, if◌then◌else◌}
+use Rattle.std.specs.Map.{lookup}
 use Rattle.std.proofs.lemmas.List.Elements.{Contains-append_cases}
 use Rattle.std.proofs.lemmas.Option.{slice_get_read}
 use Rattle.wit_digraph.specs.facts.MemberFacts.{Contains-cons_cases, Contains-nil}
@@ -34,9 +35,9 @@ same_id x y same = cc
 same_interface : (x y : Interface) → Some x ≡ Some y → x ≡ y
 same_interface x y same = cc
 
-module _ (u : SemverMerge) (found : List (Option ℕ)) (are : AreReplacements u found) (f n : ℕ) (told : Some n ≡ get_or found f None) where
+module _ (u : SemverMerge) (found : List (ℕ × ℕ)) (are : AreReplacements u found) (f n : ℕ) (told : Some n ≡ lookup (nat_eq f) found) where
   test_is : (b : Bool) → is_replaced u f ≡ b → Some n ≡ (if b then Some (newest u f) else None)
-  test_is b is = told ∙ are.1 f ∙ ap (λ (c : Bool). if c then Some (newest u f) else None) is
+  test_is b is = told ∙ are f ∙ ap (λ (c : Bool). if c then Some (newest u f) else None) is
 
   pub told_replaced : (is_replaced u f ≡ true) × (n ≡ newest u f)
   told_replaced = by (is_replaced u f) refl

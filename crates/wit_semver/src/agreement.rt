@@ -25,7 +25,8 @@ impl<'a> SemverMergePlan<'a> {
             × (e ≡ Semantic None message cause.UpgradeMismatch))) }
     {
         for index in 0..self.replaced.len() {
-            self.check_interface(alloc, InterfaceId::from_index(index))?;
+            let (old, _) = self.replaced.entry_at(index);
+            self.check_interface(alloc, *old)?;
         }
         Ok(())
     }

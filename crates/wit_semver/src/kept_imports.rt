@@ -1,5 +1,5 @@
 //! What stays of the imports of a world, and the types that what stays and the exports bring.
-ghost use Rattle.std.specs.Prelude.{◌≡◌, ◌++◌, ◌∷◌, [], ℕ, List, IfOk, None, OnOk, get_or, is_some, map};
+ghost use Rattle.std.specs.Prelude.{◌≡◌, ◌++◌, ◌∷◌, [], ℕ, List, IfOk, None, OnOk, is_some, map, nat_eq};
 ghost use Rattle.std.specs.List.{flat_map, list_any};
 ghost use Rattle.std.specs.Map.{lookup};
 ghost use Rattle.wit_data.specs.contracts.world.WorldKeyPartialEq.TheImpl.{eq-value};
@@ -34,9 +34,9 @@ impl<'a> SemverMergePlan<'a> {
 }
 
 /// Whether a key is that of a replaced interface.
-fn is_replaced(replaced: &Items<Option<InterfaceId>>, key: &WorldKey) -> bool
+fn is_replaced(replaced: &Table<InterfaceId, InterfaceId>, key: &WorldKey) -> bool
     ensures { result
-        ≡ list_any (λ i. is_some (get_or replaced.now i None)) (key_interface key.now) }
+        ≡ list_any (λ i. is_some (lookup (nat_eq i) replaced.now)) (key_interface key.now) }
 {
     match key {
         WorldKey::Interface(id) => replacement_of(replaced, *id).is_some(),

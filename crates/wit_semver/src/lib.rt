@@ -8,6 +8,7 @@ pub mod laws;
 mod merging;
 mod new_entries;
 mod newest;
+mod notes;
 mod refusal;
 mod replaced;
 mod semver_merge_plan;

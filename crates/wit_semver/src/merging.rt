@@ -1,10 +1,9 @@
 //! Imports of a world merged by tracks.
-ghost use Rattle.std.specs.Prelude.{◌≡◌, ◌⊎◌, ◌<◌, ℕ, Contains, IfErr, IfOk, OnErr, OnOk, is_some, length};
-ghost use Rattle.std.specs.List.{list_any};
+ghost use Rattle.std.specs.Prelude.{◌≡◌, ◌⊎◌, ◌<◌, IfErr, IfOk, OnErr, OnOk, length};
 ghost use Rattle.wit_elaboration.specs.Valid.{IsValid};
 ghost use Rattle.wit_graph_data.specs.declared.error_kind.ResolveErrorKind.{ResolveErrorKind};
 ghost use Rattle.wit_graph_data.specs.declared.error_kind.ResolveErrorKind.TheVariants.{OutOfMemory};
-ghost use Rattle.wit_semver.specs.SemverMerged.{semver_merged, types_of_new_entries, with_new_entries, IsSemverMergeCause};
+ghost use Rattle.wit_semver.specs.SemverMerged.{semver_merged, with_new_entries, IsSemverMergeCause};
 ghost use Rattle.wit_semver.specs.steps.Merging.{graph_after};
 ghost use Rattle.wit_semver.specs.steps.Replacing.{AreNewEntries, HasNewEntries, IsSemverMergeReady, semver_merge_of, with_imports};
 
@@ -17,13 +16,13 @@ use wit_data::{Items, Table, TrackRule, TypeId, WorldId, WorldItem, WorldKey};
 use wit_graph_data::{Graph, ResolveResult};
 use wit_transform::check_and_elaborate;
 
-/// What a world lists after its imports are merged, the types that this brings, and what each type of the graph names then,
-/// None where that stays.
+/// What a world lists after its imports are merged, the types that this brings, and what types name then, of those that name
+/// others than before.
 #[derive(Drop)]
 struct NewEntries {
     imports: Table<WorldKey, WorldItem>,
     types: Items<TypeId>,
-    targets: Items<Option<TypeId>>,
+    targets: Table<TypeId, TypeId>,
 }
 
 /// What merging the imports of a world by tracks changes of a graph, made beside it.
@@ -38,9 +37,7 @@ pub enum SemverChange {
 /// What a world lists without its replaced imports, and what types name then: what its other entries use of a replaced
 /// interface they use of the newest, where that has a type of the name.
 fn new_entries(alloc: Global, plan: &SemverMergePlan<'_>) -> Result<NewEntries, AllocError>
-    requires ready { IsSemverMergeReady plan.now }
-    requires in_range { (t : ℕ) → Contains (types_of_new_entries (semver_merge_of plan.now)) t
-        → t < length plan.now.graph.now.types }
+    requires { IsSemverMergeReady plan.now }
     ensures { IfOk result (λ entries. HasNewEntries (semver_merge_of plan.now) entries) }
 {
     let imports = plan.kept_imports(alloc)?;
@@ -100,24 +97,17 @@ pub fn graph_with_new_entries(
     with_new_entries(alloc, graph, world, imports, &targets)
 }
 
-/// Whether some type is to name another one.
-fn is_any_retargeted(targets: &Items<Option<TypeId>>) -> bool
-    ensures { result ≡ list_any is_some targets.now }
-{
-    targets.iter().any(|target| target.is_some())
-}
-
-/// What a valid graph becomes where the imports of a world of it are merged by a rule of tracks, made beside it: of the
-/// interfaces that the world imports under their own keys the greatest version on each track is left, what its other
-/// entries use of the others they use of the greatest, and all worlds are elaborated. With it the graph is valid, and
-/// each thing has the id that it had.
+/// Merges the imports of a world of a valid graph by a rule of tracks, beside the graph. Of the interfaces that the
+/// world imports under their own keys, each track keeps the greatest version; types that its other entries use of a
+/// replaced interface come from the greatest; and all worlds are elaborated. The graph with this change is valid, and
+/// each thing keeps its id.
 ///
-/// Where no type names another one than before, nothing is elaborated, since every world is its own elaboration yet, so
-/// it costs what the world holds. Else it costs a copy of the graph.
+/// If no type names another one than before, every world already is its own elaboration: then nothing is elaborated,
+/// and the call costs as much as the world holds. Else it costs a copy of the graph.
 ///
-/// Refused where the greatest lacks a type that is used, or disagrees in a function (25), where a type would refer to
-/// itself (23), an interface use itself (22) or a package depend on itself (6), where the exports of some world are
-/// in conflict (4), and for memory (28).
+/// Refused if the greatest version lacks a type that is used, or disagrees in a function (25), if a type (23), an
+/// interface (22) or a package (6) would depend on itself, if the exports of some world are in conflict (4), and for
+/// memory (28).
 ///
 /// Source: `merge_world_imports_based_on_semver` of wit-parser 0.263.0.
 pub fn find_semver_merge(
@@ -144,7 +134,7 @@ pub fn find_semver_merge(
         targets,
         ..
     } = entries;
-    if !is_any_retargeted(&targets) {
+    if targets.is_empty() {
         return Ok(SemverChange::Imports(imports));
     }
     let mut merged = with_new_entries(alloc, graph, world, imports, &targets)?;
@@ -161,8 +151,8 @@ pub fn place_imports(graph: &mut Graph, world: WorldId, imports: Table<WorldKey,
     current.imports = imports;
 }
 
-/// Merges the imports of a world of a valid graph by a rule of tracks, in place: see `find_semver_merge`, which leaves
-/// the graph as it is. After a refusal the graph is as before.
+/// Merges the imports of a world of a valid graph by a rule of tracks, in place: see `find_semver_merge`. A refusal leaves
+/// the graph as it was.
 ///
 /// Source: `merge_world_imports_based_on_semver` of wit-parser 0.263.0.
 pub fn merge_by_track(

@@ -16,10 +16,9 @@ pub(crate) fn with_new_entries(
     graph: &Graph,
     world: WorldId,
     imports: Table<WorldKey, WorldItem>,
-    targets: &Items<Option<TypeId>>,
+    targets: &Table<TypeId, TypeId>,
 ) -> Result<Graph, AllocError>
-    requires world { world < length graph.now.worlds }
-    requires targets { length targets.now ≡ length graph.now.types }
+    requires { world < length graph.now.worlds }
     ensures { IfOk result (λ made. made ≡ with_lists graph.now world imports targets.now) }
 {
     let types = retargeted_types(alloc, &graph.types, targets)?;
@@ -44,14 +43,14 @@ pub(crate) fn with_new_entries(
 fn retargeted_types(
     alloc: Global,
     types: &Items<TypeDef>,
-    targets: &Items<Option<TypeId>>,
+    targets: &Table<TypeId, TypeId>,
 ) -> Result<Items<TypeDef>, AllocError>
-    requires { length targets.now ≡ length types.now }
     ensures { IfOk result (λ made. made ≡ with_targets types.now targets.now) }
 {
     let mut made = Items::new(alloc);
     for index in 0..types.len() {
-        made.push(retargeted(types.at(index), *targets.at(index))?)?;
+        let target = targets.get(&TypeId::from_index(index)).copied();
+        made.push(retargeted(types.at(index), target)?)?;
     }
     Ok(made)
 }

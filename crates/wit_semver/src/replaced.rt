@@ -1,5 +1,5 @@
 //! Which interface replaces which.
-ghost use Rattle.std.specs.Prelude.{◌≡◌, ◌<◌, ℕ, Contains, IfOk, false, length};
+ghost use Rattle.std.specs.Prelude.{◌≡◌, Contains, IfOk, false};
 ghost use Rattle.std.specs.Option.{option_map_or};
 ghost use Rattle.wit_elaboration.specs.Valid.{IsValid};
 ghost use Rattle.wit_elaboration.specs.Entries.{keyed_interfaces};
@@ -9,32 +9,31 @@ ghost use Rattle.wit_semver.specs.steps.Replacing.{AreReplacements, IsNewestTabl
 ghost use Rattle.wit_semver.specs.steps.Parts.{is_below};
 
 use crate::newest::newest_by_track;
+use crate::notes::note;
 use crate::tracks::{TrackKey, VersionedInterface, versioned};
 use indexmap::IndexMap;
 use std::alloc::{AllocError, Global};
-use wit_data::{InterfaceId, Items, TrackRule, World, WorldKey};
+use wit_data::{InterfaceId, Table, TrackRule, World, WorldKey};
 use wit_graph_data::Graph;
 
-/// Of each interface of a graph the one that replaces it among the imports of a world: the greatest on
-/// its track, where it is imported under its own key and isn't the greatest itself.
+/// Of each import of a world that is replaced the interface that replaces it: the greatest on its track, where it is
+/// imported under its own key and isn't the greatest itself.
 pub(crate) fn replacements(
     alloc: Global,
     graph: &Graph,
     world: &World,
     rule: TrackRule,
-) -> Result<Items<Option<InterfaceId>>, AllocError>
-    requires valid { IsValid graph.now }
-    requires in_range { (i : ℕ) → Contains (keyed_interfaces world.now.imports) i
-        → i < length graph.now.interfaces }
+) -> Result<Table<InterfaceId, InterfaceId>, AllocError>
+    requires { IsValid graph.now }
     ensures { IfOk result (λ found. AreReplacements (semver_merge rule graph.now world.now) found) }
 {
     let newest = newest_by_track(alloc, graph, rule, &world.imports)?;
-    let mut found = Items::from_vec(vec![in alloc; None; graph.interfaces.len()]?);
+    let mut found = Table::new(alloc);
     for (key, _) in world.imports.iter() {
         match key {
             WorldKey::Interface(id) => {
                 let by = replacement(alloc, graph, rule, &newest, *id)?;
-                found.set(id.index(), by);
+                note(&mut found, id, by)?;
             }
             WorldKey::Name(_) => {}
         }

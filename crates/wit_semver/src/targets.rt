@@ -1,5 +1,5 @@
 //! What types name after semver merging.
-ghost use Rattle.std.specs.Prelude.{◌≡◌, ◌⊎◌, ◌<◌, ℕ, List, Contains, IfErr, IfOk, None, OnOk, length};
+ghost use Rattle.std.specs.Prelude.{◌≡◌, ◌⊎◌, ℕ, List, IfErr, IfOk, None, OnOk};
 ghost use Rattle.std.specs.Option.{option_copied};
 ghost use Rattle.wit_graph_data.specs.declared.cause.Cause.TheVariants as cause;
 ghost use Rattle.wit_graph_data.specs.declared.error_kind.ResolveErrorKind.TheVariants.{OutOfMemory, Semantic};
@@ -7,33 +7,31 @@ ghost use Rattle.wit_semver.specs.SemverMerged.{LacksType, newest_type, target_n
 ghost use Rattle.wit_semver.specs.steps.Replacing.{IsFilled, IsSemverMergeReady, LackTypes, semver_merge_of};
 ghost use Rattle.wit_semver.specs.steps.Parts.{interface_type};
 
+use crate::notes::note;
 use crate::refusal::type_missing;
 use crate::semver_merge_plan::{SemverMergePlan, replacement_of};
 use std::alloc::{AllocError, Global};
 use wit_data::{
-    Interface, InterfaceId, Items, Text, TypeDef, TypeId, alias_target, type_interface_dep,
+    Interface, InterfaceId, Items, Table, Text, TypeDef, TypeId, alias_target, type_interface_dep,
 };
 use wit_graph_data::ResolveResult;
 
 impl<'a> SemverMergePlan<'a> {
-    /// Of each type what it names after semver merging, None where it stays as it is: of some types that
-    /// may name others, each that uses a replaced interface names the type of the same name in the one that
+    /// What types name after semver merging, of those that don't stay as they are: of some types that may
+    /// name others, each that uses a replaced interface names the type of the same name in the one that
     /// replaces it, where that has one.
     pub(crate) fn new_targets(
         &self,
         alloc: Global,
         types_of_new_entries: &Items<TypeId>,
-    ) -> Result<Items<Option<TypeId>>, AllocError>
-        requires ready { IsSemverMergeReady self.now }
-        requires in_range { (t : ℕ) → Contains types_of_new_entries.now t
-            → t < length self.now.graph.now.types }
+    ) -> Result<Table<TypeId, TypeId>, AllocError>
+        requires { IsSemverMergeReady self.now }
         ensures { IfOk result (λ targets.
-            IsFilled (newest_type (semver_merge_of self.now)) types_of_new_entries.now
-            (length self.now.graph.now.types) targets) }
+            IsFilled (newest_type (semver_merge_of self.now)) types_of_new_entries.now targets) }
     {
-        let mut targets = Items::from_vec(vec![in alloc; None; self.graph.types.len()]?);
+        let mut targets = Table::new(alloc);
         for id in types_of_new_entries.as_slice() {
-            targets.set(id.index(), self.new_target(*id));
+            note(&mut targets, id, self.new_target(*id))?;
         }
         Ok(targets)
     }

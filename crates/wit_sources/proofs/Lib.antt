@@ -1,4 +1,6 @@
+pub mod FileSearch
 pub mod LineLemmas
 pub mod LocationLemmas
+pub mod MarkLemmas
 pub mod SourceMapLemmas
 pub mod Starts

@@ -36,6 +36,12 @@ location_of files span =
     option_map_or (λ (file : SourceFile). location_in file (start_of span)) (file_at files span)
     (codes "<unknown>")
 
+-- the path, the line and the column at which a span begins, None where the span is unknown or in no file
+abbrev pub location_data : List SourceFile → Option (ℕ × ℕ) → Option (List ℕ × ℕ × ℕ)
+location_data files span =
+    option_map (λ (file : SourceFile). let start = offset_in file (start_of span) in
+    (file.path, line_number file.contents start, column file.contents start)) (file_at files span)
+
 -- the place at which a span of a file begins, and below it its line with a mark under the span; of a line over 500 bytes its
 -- beginning
 abbrev pub shown_in : SourceFile → Option (ℕ × ℕ) → List ℕ

@@ -1,6 +1,7 @@
 //! Spans in source texts, and the files of a source map in one row of positions.
 #![tactic(auto)]
 
+mod lined_text;
 mod lines;
 mod shown;
 mod source_map;

@@ -2,15 +2,20 @@
 ghost use Rattle.std.specs.Prelude.{◌≡◌, ◌≤◌, ◌<◌, ◌-◌, length, not, slice_index, count_by};
 ghost use Rattle.std.specs.Fmt.{is_char_start};
 ghost use Rattle.std.specs.List.{position_or_len, suffix_len};
-ghost use Rattle.wit_sources.specs.Lines.{column, is_char_boundary_at, is_line_feed, len_in_line, line_before, line_number, line_text};
+ghost use Rattle.wit_sources.specs.Lines.{column, is_char_boundary_at, is_line_feed, len_in_line, line_before, line_text};
 
-/// The number of the line in which a position of a text stands, from 1.
-pub(crate) fn line_number(text: &str, offset: usize) -> usize
-    requires { offset ≤ length text.now }
-    ensures { result ≡ line_number text.now offset }
+/// How many line feeds a part of a text has.
+pub(crate) fn count_feeds(bytes: &[u8]) -> usize
+    ensures value { result ≡ count_by is_line_feed bytes.now }
+    ensures within { result ≤ length bytes.now }
 {
-    let before = &text.as_bytes()[..offset];
-    before.iter().filter(|byte| **byte == b'\n').count() + 1
+    let mut feeds = 0;
+    for byte in bytes {
+        if *byte == b'\n' {
+            feeds += 1;
+        }
+    }
+    feeds
 }
 
 /// The column at which a position of a text stands in its line, from 1.

@@ -5,6 +5,7 @@ ghost use Rattle.std.specs.List.{AllByRecursion};
 ghost use Rattle.std.specs.Iterator.{YieldsFirstBy, item_count};
 ghost use Rattle.wit_sources.specs.SourceMap.{AreLaidOut, end_after, with_file, moved_file, with_sources, paths_of, files_of, map_fault_text};
 
+use crate::lined_text::LinedText;
 use std::alloc::{AllocError, Global};
 use std::error::Error;
 use std::marker::Model;
@@ -52,7 +53,7 @@ impl From<AllocError> for MapFault {
 #[derive(Drop)]
 struct SourceFile {
     path: Text,
-    contents: Text,
+    contents: LinedText,
     start: u32,
 }
 
@@ -121,7 +122,7 @@ impl SourceMap {
             return Err(MapFault::OffsetOverflow);
         };
         let path = Text::try_from_str(alloc, path)?;
-        let contents = Text::from_string(contents);
+        let contents = LinedText::from_string(alloc, contents)?;
         let file = SourceFile {
             path,
             contents,

@@ -166,12 +166,12 @@ fn elaborator_of(alloc: Global, graph: &Graph) -> Result<Elaborator, AllocError>
     Elaborator::new(alloc, graph.types.as_slice(), graph.interfaces.as_slice())
 }
 
-/// Turns a world of a valid graph into one that imports what it exported: of its imports the types
-/// alone stay, its exports stand behind them, and they are elaborated. It is then the last world of its
-/// package, under the given name, or under its own with `-importized` behind it. The graph stays valid.
+/// Turns the exports of a world of a valid graph into its imports. Of the former imports only types stay; the former
+/// exports stand behind them, and the world is elaborated. It becomes the last world of its package, under the given
+/// name, or under its own with `-importized` behind it. The graph stays valid.
 ///
-/// Refused where an export has the label of a type import (19), where the new name is another world's
-/// of the package (20), and for memory (28); the graph is as before then.
+/// Refused if an export has the label of a type import (19), if another world of the package has the new name (20), and
+/// for memory (28). A refusal leaves the graph as it was.
 ///
 /// Source: `importize` of wit-parser 0.263.0.
 pub fn importize(
@@ -195,8 +195,8 @@ pub fn importize(
     importize_with(alloc, graph, &mut elaborator, world, out)
 }
 
-/// As `importize`, with an elaborator of the graph, which stays one of it: so a transformation costs what
-/// the world has and reaches.
+/// As `importize`, with an elaborator of the graph, which stays one of it. So it costs as much as the world has and
+/// reaches.
 ///
 /// Source: `importize` of wit-parser 0.263.0.
 pub fn importize_with(
@@ -304,14 +304,13 @@ pub fn exportize_answered_with(
     Ok(())
 }
 
-/// Turns a world of a valid graph into one that exports what it imported: the exports are dropped, the
-/// imports for which the filter answers true become the exports (all without a filter), and both lists
-/// are elaborated. The filter can always be called, and is asked once for each import, in order. The
-/// world is then the last of its package, under the given name, or under its own with `-exportized`
-/// behind it. The graph stays valid.
+/// Turns imports of a world of a valid graph into its exports: those for which the filter answers true, or all without
+/// a filter. The former exports go, and the world is elaborated. The filter can always be called; it is asked once for
+/// each import, in order. The world becomes the last of its package, under the given name, or under its own with
+/// `-exportized` behind it. The graph stays valid.
 ///
-/// Refused where the exports are in conflict (4), where the new name is another world's of the package
-/// (20), where a type would be exported (21), and for memory (28); the graph is as before then.
+/// Refused if the exports are in conflict (4), if another world of the package has the new name (20), if a type would
+/// be exported (21), and for memory (28). A refusal leaves the graph as it was.
 ///
 /// Source: `exportize` of wit-parser 0.263.0.
 pub fn exportize<F: Fn(&WorldKey, &WorldItem) -> bool + Drop>(
@@ -341,8 +340,8 @@ pub fn exportize<F: Fn(&WorldKey, &WorldItem) -> bool + Drop>(
     exportize_with(alloc, graph, &mut elaborator, world, out, filter)
 }
 
-/// As `exportize`, with an elaborator of the graph, which stays one of it: so a transformation costs what
-/// the world has and reaches.
+/// As `exportize`, with an elaborator of the graph, which stays one of it. So it costs as much as the world has and
+/// reaches.
 ///
 /// Source: `exportize` of wit-parser 0.263.0.
 pub fn exportize_with<F: Fn(&WorldKey, &WorldItem) -> bool + Drop>(

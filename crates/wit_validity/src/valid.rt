@@ -14,14 +14,13 @@ use std::alloc::Global;
 use wit_graph_data::{Graph, ResolveResult};
 use wit_shape::unknown::is_unknown;
 
-/// Whether a graph is valid, as the graph of each `Resolve` is: packages, interfaces and worlds
-/// stand under their names, which are kebab names, and versions are those of SemVer; types and functions belong to
-/// what lists them and refer to what they may; nothing uses itself, through whatever others; and each world is
-/// canonical, its own elaboration.
+/// Whether a graph is valid, as the graph of each `Resolve` is: packages, interfaces and worlds stand under their
+/// names, which are kebab names; versions are those of SemVer; types and functions belong to what lists them and refer
+/// to what they may; nothing depends on itself; and each world is canonical, its own elaboration.
 ///
-/// It is told of any graph, also what ids are remapped to nowhere, things use themselves or worlds can't be
-/// elaborated. It takes time in proportion to the graph's size, and for each world that of its
-/// elaboration. The only refusal is want of memory (28).
+/// Any graph may be asked, also one with ids of nothing, with cycles, or with worlds that can't be elaborated. It takes
+/// time in proportion to the graph's size, and for each world that of its elaboration. The only refusal is want of
+/// memory (28).
 ///
 /// Source: `assert_valid` of wit-parser 0.263.0.
 pub fn is_valid(alloc: Global, graph: &Graph) -> ResolveResult<bool>

@@ -12,7 +12,9 @@ use crate::status::{
 };
 use std::alloc::{AllocError, Global};
 use wit_json::{JsonText, whole_to_json};
-use wit_json_commands::{Document, Order, Response, fault_text, no_valid_graph, responses_to};
+use wit_json_commands::{
+    Document, Order, Response, fault_text, no_valid_graph, responses_to, without_long_answers,
+};
 use wit_json_graphs::ResolveParts;
 use wit_json_reading::{Fault, ReadError, read_text};
 use wit_resolve_graph::{Items, Resolve};
@@ -96,7 +98,8 @@ fn valid(alloc: Global, parts: ResolveParts) -> Result<Resolve, ReadError>
     }
 }
 
-/// The replies to commands, which are carried out on a graph. None where memory is wanted on the way.
+/// The replies to commands, which are carried out on a graph. None where memory is wanted on the way; long answers that
+/// can't be written are refused.
 fn reply(alloc: Global, resolve: &mut Resolve, commands: Items<Order>) -> Option<String>
     ensures { IfSome result
         (λ text. Replies resolve.old commands resolve.new (string_bytes text)) }
@@ -104,10 +107,12 @@ fn reply(alloc: Global, resolve: &mut Resolve, commands: Items<Order>) -> Option
     let Ok(replies) = responses_to(alloc, resolve, commands) else {
         return None;
     };
-    match replies_to_json(alloc, &replies) {
-        Ok(text) => Some(text),
-        Err(_) => None,
+    if let Ok(text) = replies_to_json(alloc, &replies) {
+        return Some(text);
     }
+    let (graph, files) = (resolve.graph(), resolve.source_map());
+    let left = without_long_answers(alloc, graph, files, replies).ok()?;
+    replies_to_json(alloc, &left).ok()
 }
 
 /// The replies to commands, without a space. The only error is want of memory.

@@ -4,22 +4,19 @@ use Rattle.std.proofs.Math.Seq.{drop-cons}
 use Rattle.std.proofs.lemmas.List.{append-nil, length-append}
 use Rattle.std.proofs.lemmas.List.Sums.{fold-append}
 use Rattle.std.specs.List.{enumerate_from, flat_map}
-use Rattle.std.specs.Option.{option_map_or}
-use Rattle.witgraph_dot.specs.Listed.{with_all_imports, and_import, and_imports, and_include, and_includes, has_include, imports_of, includes_of, lists}
-use Rattle.witgraph_dot.specs.Pushed.{imports_for, repeated, with_brought_imports, with_brought_includes}
-use Rattle.witgraph_dot.specs.declared.listing.Import.{Import}
-use Rattle.witgraph_dot.specs.declared.listing.Include.{Include}
+use Rattle.witgraph_dot.specs.Listed.{and_link, and_links, has_link, listed_for, with_links}
+use Rattle.witgraph_dot.specs.Pushed.{links_for, repeated, with_brought, world_links}
 
--- what lines list for one world is added as interfaces of that world
-for-one : (imports : List Import) (interfaces : List ℕ) (w : ℕ) → with_all_imports imports (imports_for interfaces w) ≡ and_imports imports w interfaces
-for-one imports [] w = refl
-for-one imports (i ∷ is) w = for-one (and_import imports w i) is w
+-- what lines list for one world is added as things of that world
+for-one : (links : List (ℕ × ℕ)) (things : List ℕ) (w : ℕ) → with_links links (links_for things w) ≡ and_links links w things
+for-one links [] w = refl
+for-one links (t ∷ ts) w = for-one (and_link links w t) ts w
 
-pub world-listed : {X E : Type 0} (told : Result X E) (imports after : List Import) (interfaces : List ℕ) (found : Option ℕ) (w : ℕ) → found ≡ Some w → after ≡ and_imports imports w interfaces
-    → OnOk told (after ≡ with_all_imports imports (option_map_or (imports_for interfaces) found []))
-world-listed (Ok x) imports after interfaces found w is listed =
-    listed ∙ (sym (for-one imports interfaces w) ∙ ap (λ (o : Option ℕ). with_all_imports imports (option_map_or (imports_for interfaces) o [])) (sym is))
-world-listed (Err e) imports after interfaces found w is listed = tt
+pub world-listed : {X E : Type 0} (told : Result X E) (links after : List (ℕ × ℕ)) (things : List ℕ) (found : Option ℕ) (w : ℕ) → found ≡ Some w → after ≡ and_links links w things
+    → OnOk told (after ≡ with_links links (world_links things found))
+world-listed (Ok x) links after things found w is listed =
+    listed ∙ (sym (for-one links things w) ∙ ap (λ (o : Option ℕ). with_links links (world_links things o)) (sym is))
+world-listed (Err e) links after things found w is listed = tt
 
 -- of what is left of a list, the first and the others
 pub left-first : {X : Type 0} (xs : List X) (i : ℕ) (x : X) → i < length xs → x ≡ get_or xs i x → drop i xs ≡ x ∷ drop (i + 1) xs
@@ -43,11 +40,11 @@ module _ {A X : Type 0} (piece : X → List A) (first : X) (left others : List X
       ∙ (ap (λ l. before ++ flat_map piece l) (sym split) ∙ made))
 
 -- the rounds that are left after one more
-pub rounds-left : {A : Type 0} (brings : A → Include → A) (includes : List Include) (n k : ℕ) (before after total : A) → k < n → repeated brings includes (n - k) before ≡ total
-    → after ≡ fold brings before includes → repeated brings includes (n - (k + 1)) after ≡ total
-rounds-left brings includes n k before after total below made next =
+pub rounds-left : (includes : List (ℕ × ℕ)) (n k : ℕ) (before after total : List (ℕ × ℕ)) → k < n → repeated includes (n - k) before ≡ total
+    → after ≡ fold with_brought before includes → repeated includes (n - (k + 1)) after ≡ total
+rounds-left includes n k before after total below made next =
     let one : n - k ≡ suc (n - (k + 1)) = omega arith in
-    ap (repeated brings includes (n - (k + 1))) next ∙ (sym (ap (λ m. repeated brings includes m before) one) ∙ made)
+    ap (repeated includes (n - (k + 1))) next ∙ (sym (ap (λ m. repeated includes m before) one) ∙ made)
 
 -- ---- a round that adds nothing
 
@@ -65,17 +62,10 @@ if-grows : {A : Type 0} (b : Bool) (xs : List A) (x : A) → Grows xs (if b then
 if-grows true xs x = grows-not xs
 if-grows false xs x = (x ∷ [], refl)
 
-and_imports-grow : (imports : List Import) (w : ℕ) (interfaces : List ℕ) → Grows imports (and_imports imports w interfaces)
-and_imports-grow imports w [] = grows-not imports
-and_imports-grow imports w (i ∷ is) =
-    let one : Import = record { world = w; interface = i } in
-    grows-on imports (and_import imports w i) (and_imports imports w (i ∷ is)) (if-grows (lists imports w i) imports one) (and_imports-grow (and_import imports w i) w is)
-
-and_includes-grow : (includes : List Include) (w : ℕ) (more : List ℕ) → Grows includes (and_includes includes w more)
-and_includes-grow includes w [] = grows-not includes
-and_includes-grow includes w (u ∷ us) =
-    let one : Include = record { world = w; included = u } in
-    grows-on includes (and_include includes w u) (and_includes includes w (u ∷ us)) (if-grows (has_include includes w u) includes one) (and_includes-grow (and_include includes w u) w us)
+and_links-grow : (links : List (ℕ × ℕ)) (w : ℕ) (things : List ℕ) → Grows links (and_links links w things)
+and_links-grow links w [] = grows-not links
+and_links-grow links w (t ∷ ts) =
+    grows-on links (and_link links w t) (and_links links w (t ∷ ts)) (if-grows (has_link links w t) links (w, t)) (and_links-grow (and_link links w t) w ts)
 
 fold-grows : {A X : Type 0} (step : List A → X → List A) → ((l : List A) (x : X) → Grows l (step l x)) → (l : List A) (xs : List X) → Grows l (fold step l xs)
 fold-grows step grows l [] = grows-not l
@@ -91,21 +81,14 @@ grown-same {A} before after grown same = of grown.0 grown.1 where
       let sum : length (before ++ x ∷ more) ≡ length before + suc (length more) = length-append before (x ∷ more) in
       absurd (omega (arith, whole, sum, same))
 
-repeated-same : {A : Type 0} (brings : A → Include → A) (includes : List Include) (n : ℕ) (all : A) → fold brings all includes ≡ all → repeated brings includes n all ≡ all
-repeated-same brings includes zero all same = refl
-repeated-same brings includes (suc n) all same = ap (repeated brings includes n) same ∙ repeated-same brings includes n all same
+repeated-same : (includes : List (ℕ × ℕ)) (n : ℕ) (all : List (ℕ × ℕ)) → fold with_brought all includes ≡ all → repeated includes n all ≡ all
+repeated-same includes zero all same = refl
+repeated-same includes (suc n) all same = ap (repeated includes n) same ∙ repeated-same includes n all same
 
 -- what rounds make that are left where one adds nothing
-rounds-end : {A : Type 0} (brings : List A → Include → List A) → ((l : List A) (x : Include) → Grows l (brings l x)) → (includes : List Include) (n : ℕ) (before after total : List A)
-    → repeated brings includes n before ≡ total → after ≡ fold brings before includes → length after ≡ length before → after ≡ total
-rounds-end brings grows includes n before after total made next same =
-    let stays : after ≡ before = grown-same before after (subst (Grows before) (sym next) (fold-grows brings grows before includes)) same in
-    stays ∙ (sym (repeated-same brings includes n before (sym next ∙ stays)) ∙ made)
-
-pub imports-end : (includes : List Include) (n : ℕ) (before after total : List Import) → repeated with_brought_imports includes n before ≡ total → after ≡ fold with_brought_imports before includes
+pub rounds-end : (includes : List (ℕ × ℕ)) (n : ℕ) (before after total : List (ℕ × ℕ)) → repeated includes n before ≡ total → after ≡ fold with_brought before includes
     → length after ≡ length before → after ≡ total
-imports-end = rounds-end with_brought_imports (λ imports one. and_imports-grow imports one.world (imports_of one.included imports))
-
-pub includes-end : (includes : List Include) (n : ℕ) (before after total : List Include) → repeated with_brought_includes includes n before ≡ total → after ≡ fold with_brought_includes before includes
-    → length after ≡ length before → after ≡ total
-includes-end = rounds-end with_brought_includes (λ includes one. and_includes-grow includes one.world (includes_of one.included includes))
+rounds-end includes n before after total made next same =
+    let grows = fold-grows with_brought (λ links (one : ℕ × ℕ). and_links-grow links one.0 (listed_for one.1 links)) before includes in
+    let stays : after ≡ before = grown-same before after (subst (Grows before) (sym next) grows) same in
+    stays ∙ (sym (repeated-same includes n before (sym next ∙ stays)) ∙ made)

@@ -1,60 +1,25 @@
--- Commands that are carried out, one after another.
-use Rattle.std.proofs.Common.{◌≡◌, ◌∙◌, ◌∷◌, [], ◌++◌, ℕ, Bool, true, false, if◌then◌else◌, List, Option, None, Some, Result, Ok, Err, refl, sym, ap, subst, append_assoc}
-use Rattle.std.proofs.lemmas.List.{append-nil}
+-- A command that is carried out, with what it lists.
+use Rattle.std.proofs.Common.{◌≡◌, ◌∙◌, ℕ, Bool, true, false, if◌then◌else◌, List, Option, None, Some, Result, Ok, Err, refl, sym, ap, subst}
 use Rattle.std.specs.Prelude.{OnOk}
 use Rattle.wit_graph_data.specs.declared.error_kind.ResolveErrorKind.{ResolveErrorKind}
 use Rattle.wit_graph_data.specs.declared.error_kind.ResolveErrorKind.TheVariants.{OutOfMemory}
 use Rattle.wit_resolve_graph.specs.declared.command.Reply.{Reply}
 use Rattle.wit_resolve_graph.specs.declared.command.Reply.TheVariants as reply
 use Rattle.wit_script_explain.specs.Desk.{working}
-use Rattle.wit_script_explain.specs.Explained.{ExplainsCommand, place_of, rest_of}
+use Rattle.wit_script_explain.specs.Explained.{ExplainsCommand}
 use Rattle.wit_script_explain.specs.declared.desk.Desk.{Desk}
 use Rattle.wit_script_explain.specs.declared.desk.TrackedGraph.{TrackedGraph}
 use Rattle.wit_script_lines.specs.declared.request.Request.{Request}
 use Rattle.wit_script_explain.specs.declared.lines.CommandPlace.{CommandPlace}
 use Rattle.wit_script_explain.specs.declared.lines.ScriptLines.{ScriptLines}
 use Rattle.witgraph_dot.specs.Effects.{request_effect}
-use Rattle.witgraph_dot.specs.Made.{AllMake, CommandMakes, came_to_something, stage_after, with_working_effect}
+use Rattle.witgraph_dot.specs.Made.{CommandMakes, came_to_something, stage_after, with_working_effect}
 use Rattle.witgraph_dot.specs.declared.effect.Effect.{Effect}
 use Rattle.witgraph_dot.specs.declared.effect.Effect.TheVariants as effect
-use Rattle.witgraph_dot.specs.declared.listing.Import.{Import}
-use Rattle.witgraph_dot.specs.declared.listing.Include.{Include}
 use Rattle.witgraph_dot.specs.declared.listing.Listing.{Listing}
 use Rattle.witgraph_dot.specs.declared.stage.Stage.{Stage}
 
--- the places that are left after some commands
-abbrev pub rest_after : List CommandPlace → List Request → List CommandPlace
-rest_after places [] = places
-rest_after places (command ∷ commands) = rest_after (rest_of places) commands
-
-pub rest_after-more : (places : List CommandPlace) (commands : List Request) (command : Request)
-    → rest_of (rest_after places commands) ≡ rest_after places (commands ++ command ∷ [])
-rest_after-more places [] command = refl
-rest_after-more places (first ∷ commands) command = rest_after-more (rest_of places) commands command
-
--- one more command
-module _ (script : ScriptLines) where
-  pub AllMake-more : (places : List CommandPlace) (before between after : Stage) (commands : List Request) (command : Request) (text more : List ℕ)
-      → AllMake script places before commands text between → CommandMakes script (place_of script (rest_after places commands)) between command more after
-      → AllMake script places before (commands ++ command ∷ []) (text ++ more) after
-  AllMake-more places before between after [] command text more all one = (
-    after,
-    more,
-    [],
-    subst (λ (s : Stage). CommandMakes script (place_of script places) s command more after) all.1 one,
-    (refl, refl),
-    ap (λ (t : List ℕ). t ++ more) all.0 ∙ sym (append-nil more),
-  )
-  AllMake-more places before between after (first ∷ commands) command text more all one = (
-    all.0,
-    all.1,
-    all.2 ++ more,
-    all.3,
-    AllMake-more (rest_of places) all.0 between after commands command all.2 more all.4 one,
-    ap (λ (t : List ℕ). t ++ more) all.5 ∙ append_assoc all.1 all.2 more,
-  )
-
--- a command that is carried out, with what it lists
+-- the desk stays with what is listed
 working-desk : (desk : Desk) (done : Effect) (second : Option TrackedGraph) (first other : Listing) → (with_working_effect desk done second first other).desk ≡ desk
 working-desk desk done None first other = refl
 working-desk desk done (Some graph) first other = refl
@@ -71,7 +36,7 @@ desk-stays done answer desk first second = either-desk (came_to_something answer
 
 module _ (script : ScriptLines) (place : CommandPlace) (before after : Stage) (asked read : Request) (text : List ℕ) (desk : Desk) (done : Effect) (answer : Option Reply) where
   pub makes : read ≡ asked → done ≡ request_effect (working before.desk).resolve.graph asked → ExplainsCommand script place before.desk read answer text desk
-      → (answer ≡ Some (reply.Refused OutOfMemory) → ⊥) → after ≡ stage_after done answer desk before.first before.second → CommandMakes script place before asked text after
+      → (answer ≡ Some (reply.Refused OutOfMemory) → ⊥) → after ≡ stage_after done answer desk before.first before.second → CommandMakes script before (place, asked) text after
   makes same of_done told no_want of_after =
       let desk_is : after.desk ≡ desk = ap (λ (s : Stage). s.desk) of_after ∙ desk-stays done answer desk before.first before.second in
       let g = (working before.desk).resolve.graph in (
@@ -83,11 +48,11 @@ module _ (script : ScriptLines) (place : CommandPlace) (before after : Stage) (a
       )
 
 -- a listing by its parts
-pub listing-is : {X E : Type 0} (told : Result X E) (made : Listing) (imports : List Import) (includes : List Include) → OnOk told (made.imports ≡ imports) → OnOk told (made.includes ≡ includes)
+pub listing-is : {X E : Type 0} (told : Result X E) (made : Listing) (imports includes : List (ℕ × ℕ)) → OnOk told (made.imports ≡ imports) → OnOk told (made.includes ≡ includes)
     → OnOk told (made ≡ record { imports = imports; includes = includes })
 listing-is (Ok x) made imports includes first second =
-    ap (λ (l : List Import). let new : Listing = record { imports = l; includes = made.includes } in new) first
-    ∙ ap (λ (l : List Include). let new : Listing = record { imports = imports; includes = l } in new) second
+    ap (λ (l : List (ℕ × ℕ)). let new : Listing = record { imports = l; includes = made.includes } in new) first
+    ∙ ap (λ (l : List (ℕ × ℕ)). let new : Listing = record { imports = imports; includes = l } in new) second
 listing-is (Err e) made imports includes first second = tt
 
 same_kind : {a b : ResolveErrorKind} → Some (reply.Refused a) ≡ Some (reply.Refused b) → a ≡ b

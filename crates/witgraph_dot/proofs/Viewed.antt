@@ -10,7 +10,7 @@ use Rattle.wit_script_explain.specs.declared.lines.ScriptLines.{ScriptLines}
 use Rattle.witgraph_dot.specs.Bundles.{frames_of}
 use Rattle.witgraph_dot.specs.Choice.{choice_of}
 use Rattle.witgraph_dot.specs.Made.{ScriptMakes}
-use Rattle.witgraph_dot.specs.Picture.{DrawsScript, chosen_view, drawn_text}
+use Rattle.witgraph_dot.specs.Picture.{DrawsScript, chosen_view, picture_text}
 use Rattle.witgraph_dot.specs.Scene.{View, view_of}
 use Rattle.witgraph_dot.specs.Shown.{shown_interfaces, shown_worlds}
 use Rattle.witgraph_dot.specs.declared.choice.Choice.{Choice}
@@ -41,6 +41,10 @@ view-is scene choice state listing of_graph of_listing of_interfaces of_worlds o
     ∙ (ap (λ (ws : List ℕ). view state.graph listing interfaces ws scene.frames scene.only_added) of_worlds
     ∙ (ap (λ (fs : List (List ℕ)). view state.graph listing interfaces worlds fs scene.only_added) of_frames
     ∙ ap (λ (b : Bool). view state.graph listing interfaces worlds (frames_of interfaces state.graph.packages) b) of_added))))
+
+-- what a choice shows of the first graph of a script, and a note
+abbrev drawn_text : Choice → Stage → List ℕ → List ℕ
+drawn_text choice stage note = picture_text (chosen_view choice stage.desk.first.resolve.graph stage.first) note
 
 -- what is drawn after a script that is understood
 pub drawn-by : (input text : List ℕ) (script : ScriptLines) → script ≡ script_lines_of (lines_of input) → (commands : List Request) → IsUnderstood input commands

@@ -2,10 +2,14 @@
 use Rattle.std.proofs.Common.{◌≡◌, ◌∙◌, ◌&&◌, ◌++◌, ◌-◌, ◌==◌, [], ℕ, Bool, false, List, Result, Ok, Err, Some, OnOk, ap, if◌then◌else◌, length, not, slice_get, subst, sym}
 use Rattle.std.specs.Option.{option_map_or}
 use Rattle.wit_graph_data.specs.declared.graph.Package.{Package}
-use Rattle.witgraph_dot.specs.Frames.{frame_text, frame_unless_empty, shows_world, whole_frame}
+use Rattle.witgraph_dot.specs.Frames.{frame_text, shows_world, whole_frame}
 use Rattle.witgraph_dot.specs.Lines.{box_name, end_at_frame, end_in_frame, frame_end, inner_suffix, arrow_through_box}
 use Rattle.witgraph_dot.specs.Scene.{View}
 use Rattle.witgraph_dot.specs.declared.arrow.ArrowKind.{ArrowKind}
+
+-- the frame of a package with these interfaces, where there is something in it
+abbrev frame_unless_empty : View → ℕ → Package → List ℕ → List ℕ
+frame_unless_empty v p owner interfaces = if (length interfaces == 0) && not (shows_world v.worlds owner) then [] else whole_frame v p owner interfaces
 
 -- a frame that isn't empty is what is written of this index and these interfaces
 pub frame-written : {X E : Type 0} (told : Result X E) (before after : List ℕ) (v : View) (p q : ℕ) (owner : Package) (interfaces slice : List ℕ) → q ≡ p → slice ≡ interfaces

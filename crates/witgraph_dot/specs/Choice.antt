@@ -1,5 +1,5 @@
 -- What the comment lines of a script choose for its picture.
-use Rattle.std.specs.Prelude.{◌&&◌, ℕ, Bool, true, false, List, [], ◌∷◌, ◌++◌, Option, Some, None, bytes_eq, codes, if◌then◌else◌}
+use Rattle.std.specs.Prelude.{◌&&◌, ℕ, Bool, true, false, List, [], ◌++◌, Option, Some, None, bytes_eq, codes, fold, if◌then◌else◌, option_to_list}
 use Rattle.std.specs.List.{list_any}
 use Rattle.std.specs.Option.{option_eq, option_map_or}
 use Rattle.wit_names.specs.declared.package_name.PackageName.{PackageName}
@@ -56,40 +56,18 @@ all_things = record { shown = []; hidden = []; only_added = false }
 
 -- some picks, and one more where there is one
 abbrev pub and_pick : List Pick → Option Pick → List Pick
-and_pick picked None = picked
-and_pick picked (Some pick) = picked ++ pick ∷ []
+and_pick picked pick = picked ++ option_to_list pick
 
--- with what `# show` says with this text
-abbrev pub with_shown : Choice → List ℕ → Choice
-with_shown choice text =
-    record {
-      shown = and_pick choice.shown (pick_of text);
-      hidden = choice.hidden;
-      only_added = choice.only_added;
-    }
-
--- with what `# hide` says with this text
-abbrev pub with_hidden : Choice → List ℕ → Choice
-with_hidden choice text =
-    record {
-      shown = choice.shown;
-      hidden = and_pick choice.hidden (pick_of text);
-      only_added = choice.only_added;
-    }
-
--- with what a line chooses
+-- with what a line chooses: `# only-added`, `# show PICK`, `# hide PICK`
 abbrev pub and_line : Choice → List ℕ → Choice
 and_line choice line =
-    if bytes_eq line (codes "# only-added")
-    then record { shown = choice.shown; hidden = choice.hidden; only_added = true }
-    else option_map_or (with_shown choice) (after_prefix (codes "# show ") line)
-    (option_map_or (with_hidden choice) (after_prefix (codes "# hide ") line) choice)
+    if bytes_eq line (codes "# only-added") then record choice { only_added = true }
+    else option_map_or
+    (λ text. record choice { shown = and_pick choice.shown (pick_of text) })
+    (after_prefix (codes "# show ") line)
+    (option_map_or (λ text. record choice { hidden = and_pick choice.hidden (pick_of text) })
+    (after_prefix (codes "# hide ") line) choice)
 
--- with what lines choose, one after another
-abbrev pub and_lines : Choice → List (List ℕ) → Choice
-and_lines choice [] = choice
-and_lines choice (line ∷ lines) = and_lines (and_line choice line) lines
-
--- the choice of a script of these lines
+-- the choice of a script of these lines, one after another
 abbrev pub choice_of : List (List ℕ) → Choice
-choice_of lines = and_lines all_things lines
+choice_of lines = fold and_line all_things lines

@@ -10,13 +10,12 @@ use Rattle.wit_resolve_graph.specs.State.{State}
 use Rattle.wit_script_lines.specs.declared.request.Request.{Request}
 use Rattle.wit_script_lines.specs.declared.request.Request.TheVariants as request
 use Rattle.witgraph_dot.specs.Entries.{own_exports, own_imports}
-use Rattle.witgraph_dot.specs.Listed.{imports_of, others_of, and_import, and_imports}
-use Rattle.witgraph_dot.specs.Pushed.{pushed_imports, pushed_includes}
+use Rattle.witgraph_dot.specs.Listed.{listed_for, others_of, and_link, and_links}
+use Rattle.witgraph_dot.specs.Pushed.{line_imports, line_includes, pushed}
 use Rattle.witgraph_dot.specs.Sets.{without}
 use Rattle.witgraph_dot.specs.Tracks.{is_version_of_any}
 use Rattle.witgraph_dot.specs.declared.effect.Effect.{Effect}
 use Rattle.witgraph_dot.specs.declared.effect.Effect.TheVariants as effect
-use Rattle.witgraph_dot.specs.declared.listing.Import.{Import}
 use Rattle.witgraph_dot.specs.declared.listing.Listing.{Listing}
 
 -- ---- what a command does, on this graph before it
@@ -46,35 +45,31 @@ request_effect g _ = effect.Nothing
 -- ---- what is listed after it
 
 -- these in place of what was listed for a world
-abbrev pub replaced : ℕ → List ℕ → List Import → List Import
-replaced world interfaces imports = and_imports (others_of world imports) world interfaces
+abbrev pub replaced : ℕ → List ℕ → List (ℕ × ℕ) → List (ℕ × ℕ)
+replaced world interfaces imports = and_links (others_of world imports) world interfaces
 
 -- after `importize`: what the world exported before
-abbrev pub importized_imports : Option ℕ → List ℕ → List Import → List Import
+abbrev pub importized_imports : Option ℕ → List ℕ → List (ℕ × ℕ) → List (ℕ × ℕ)
 importized_imports world exports imports =
     option_map_or (λ w. replaced w exports imports) world imports
 
 -- after `exportize`: what was listed and isn't exported
-abbrev pub exportized_imports : Option ℕ → Graph → List Import → List Import
+abbrev pub exportized_imports : Option ℕ → Graph → List (ℕ × ℕ) → List (ℕ × ℕ)
 exportized_imports world g imports =
     option_map_or (λ w.
-    replaced w (without (imports_of w imports) (own_exports (slice_get g.worlds w))) imports)
+    replaced w (without (listed_for w imports) (own_exports (slice_get g.worlds w))) imports)
     world imports
 
--- with an interface more for a world where it stands on the track of something that is listed for it
-abbrev pub with_version : TrackRule → Graph → List Import → ℕ → ℕ → List Import
-with_version rule g imports world i =
-    if is_version_of_any rule g (imports_of world imports) i then and_import imports world i
-    else imports
-
--- so with several, one after another
-abbrev pub with_versions : TrackRule → Graph → List Import → ℕ → List ℕ → List Import
+-- with those of some interfaces for a world that stand on the track of something that is listed for it, one after another
+abbrev pub with_versions : TrackRule → Graph → List (ℕ × ℕ) → ℕ → List ℕ → List (ℕ × ℕ)
 with_versions rule g imports world [] = imports
 with_versions rule g imports world (i ∷ is) =
-    with_versions rule g (with_version rule g imports world i) world is
+    with_versions rule g
+    (if is_version_of_any rule g (listed_for world imports) i then and_link imports world i
+    else imports) world is
 
 -- after `semver`: also what the world imports on the track of something listed
-abbrev pub semver_merged_imports : Option ℕ → TrackRule → Graph → List Import → List Import
+abbrev pub semver_merged_imports : Option ℕ → TrackRule → Graph → List (ℕ × ℕ) → List (ℕ × ℕ)
 semver_merged_imports world rule g imports =
     option_map_or (λ w. with_versions rule g imports w (own_imports (slice_get g.worlds w))) world
     imports
@@ -83,8 +78,8 @@ semver_merged_imports world rule g imports =
 abbrev pub with_effect : State → Effect → Listing → Listing
 with_effect after (effect.Pushes groups) listing =
     record {
-      imports = pushed_imports after.graph groups listing.imports;
-      includes = pushed_includes after.graph groups listing.includes;
+      imports = pushed line_imports after.graph groups listing.imports;
+      includes = pushed line_includes after.graph groups listing.includes;
     }
 with_effect after (effect.Importizes world exports) listing =
     record listing { imports = importized_imports world exports listing.imports }

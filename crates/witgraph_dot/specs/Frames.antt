@@ -56,16 +56,13 @@ whole_frame v p «package» interfaces =
     ++ (shown_boxes v.worlds p «package» interfaces
     ++ (world_boxes v.graph.worlds v.worlds «package» ++ codes "  }\n"))
 
--- the same, where there is something in it
-abbrev pub frame_unless_empty : View → ℕ → Package → List ℕ → List ℕ
-frame_unless_empty v p «package» interfaces =
-    if (length interfaces == 0) && not (shows_world v.worlds «package») then []
-    else whole_frame v p «package» interfaces
-
--- the frame of package p
+-- the frame of package p, where there is something in it
 abbrev pub frame_text : View → ℕ → Package → List ℕ
 frame_text v p «package» =
-    option_map_or (frame_unless_empty v p «package») (slice_get v.frames p) []
+    option_map_or (λ interfaces.
+    if (length interfaces == 0) && not (shows_world v.worlds «package») then []
+    else whole_frame v p «package» interfaces)
+    (slice_get v.frames p) []
 
 -- the frames of packages, of which the first has this id
 abbrev pub frame_texts : View → ℕ → List Package → List ℕ

@@ -142,16 +142,14 @@ labelled_entries sort shown w entries =
     flat_map (labelled_lines sort w entries)
     (first_of_each (filter (is_one_of shown) (labelled_interfaces entries)))
 
-abbrev pub labelled_of : List ℕ → ℕ → World → List ℕ
-labelled_of shown w world =
-    labelled_entries kind.Listed shown w world.imports
-    ++ labelled_entries kind.Exported shown w world.exports
-
 -- so of world w, where all entries are shown
 abbrev pub all_labelled : View → ℕ → List ℕ
 all_labelled v w =
     if v.only_added then []
-    else option_map_or (labelled_of v.interfaces w) (slice_get v.graph.worlds w) []
+    else option_map_or (λ (world : World).
+    labelled_entries kind.Listed v.interfaces w world.imports
+    ++ labelled_entries kind.Exported v.interfaces w world.exports)
+    (slice_get v.graph.worlds w) []
 
 -- ---- all arrows
 

@@ -1,123 +1,61 @@
--- The imports that lines list, each a world and an interface that it imports under the interface's own id; and the worlds that
--- worlds include.
+-- What lines list for worlds: the imports, each of an interface under the interface's own id, and the worlds that worlds include.
+-- Both are lists of links, each a world and what is listed for it.
 use Rattle.std.specs.Prelude.{◌&&◌, ℕ, Bool, List, [], ◌∷◌, ◌++◌, Option, filter, filter_map, fold, nat_eq, not, if◌then◌else◌, flat_map, option_and_then, option_map, slice_get}
 use Rattle.std.specs.List.{list_any}
-use Rattle.witgraph_dot.specs.declared.listing.Import.{Import}
-use Rattle.witgraph_dot.specs.declared.listing.Include.{Include}
+use Rattle.std.specs.Option.{option_flatten}
 use Rattle.witgraph_dot.specs.declared.listing.Listing.{Listing}
 
 -- nothing
 abbrev pub new_listing : Listing
 new_listing = record { imports = []; includes = [] }
 
--- it is an import of this world
-abbrev pub is_of : ℕ → Import → Bool
-is_of world listed = nat_eq listed.world world
+-- it is a link of this world
+abbrev pub is_of : ℕ → ℕ × ℕ → Bool
+is_of world link = nat_eq link.0 world
 
--- it is this import
-abbrev pub is_import : ℕ → ℕ → Import → Bool
-is_import world interface listed = is_of world listed && nat_eq listed.interface interface
+-- this is listed for a world
+abbrev pub has_link : List (ℕ × ℕ) → ℕ → ℕ → Bool
+has_link links world thing =
+    list_any (λ (link : ℕ × ℕ). is_of world link && nat_eq link.1 thing) links
 
--- a line lists this interface for this world
-abbrev pub lists : List Import → ℕ → ℕ → Bool
-lists imports world interface = list_any (is_import world interface) imports
+-- what is listed for a world
+abbrev pub listed_for : ℕ → List (ℕ × ℕ) → List ℕ
+listed_for world links =
+    flat_map (λ (link : ℕ × ℕ). if is_of world link then link.1 ∷ [] else []) links
 
--- the interface of an import of this world
-abbrev pub interface_of_import : ℕ → Import → List ℕ
-interface_of_import world listed = if is_of world listed then listed.interface ∷ [] else []
+-- what is listed for other worlds
+abbrev pub others_of : ℕ → List (ℕ × ℕ) → List (ℕ × ℕ)
+others_of world links = filter (λ (link : ℕ × ℕ). not (is_of world link)) links
 
--- what lines list for a world
-abbrev pub imports_of : ℕ → List Import → List ℕ
-imports_of world imports = flat_map (interface_of_import world) imports
-
--- what they list for other worlds
-abbrev pub others_of : ℕ → List Import → List Import
-others_of world imports = filter (λ (listed : Import). not (is_of world listed)) imports
-
--- with one interface more for a world, where it isn't there
-abbrev pub and_import : List Import → ℕ → ℕ → List Import
-and_import imports world interface =
-    if lists imports world interface then imports
-    else imports ++ record { world = world; interface = interface } ∷ []
+-- with one thing more for a world, where it isn't there
+abbrev pub and_link : List (ℕ × ℕ) → ℕ → ℕ → List (ℕ × ℕ)
+and_link links world thing =
+    if has_link links world thing then links else links ++ (world, thing) ∷ []
 
 -- with several more
-abbrev pub and_imports : List Import → ℕ → List ℕ → List Import
-and_imports imports world [] = imports
-and_imports imports world (interface ∷ interfaces) =
-    and_imports (and_import imports world interface) world interfaces
+abbrev pub and_links : List (ℕ × ℕ) → ℕ → List ℕ → List (ℕ × ℕ)
+and_links links world [] = links
+and_links links world (thing ∷ things) = and_links (and_link links world thing) world things
 
--- it is an include of this world
-abbrev pub is_include_of : ℕ → Include → Bool
-is_include_of world include = nat_eq include.world world
-
--- it is this include
-abbrev pub is_include : ℕ → ℕ → Include → Bool
-is_include world included include = is_include_of world include && nat_eq include.included included
-
--- a world includes another, by a line or by one of a world that it includes
-abbrev pub has_include : List Include → ℕ → ℕ → Bool
-has_include all world included = list_any (is_include world included) all
-
--- the world that an include of this world includes
-abbrev pub target_of_include : ℕ → Include → List ℕ
-target_of_include world include = if is_include_of world include then include.included ∷ [] else []
-
--- the worlds that a world includes
-abbrev pub includes_of : ℕ → List Include → List ℕ
-includes_of world all = flat_map (target_of_include world) all
-
--- with one include more, where it isn't there
-abbrev pub and_include : List Include → ℕ → ℕ → List Include
-and_include all world included =
-    if has_include all world included then all
-    else all ++ record { world = world; included = included } ∷ []
-
--- with several more
-abbrev pub and_includes : List Include → ℕ → List ℕ → List Include
-and_includes all world [] = all
-and_includes all world (included ∷ more) =
-    and_includes (and_include all world included) world more
-
--- ---- of several worlds
-
--- with some imports more, each where it isn't there
-abbrev pub with_all_imports : List Import → List Import → List Import
-with_all_imports imports more =
-    fold (λ (all : List Import) (one : Import). and_import all one.world one.interface) imports
-    more
-
--- so with includes
-abbrev pub with_all_includes : List Include → List Include → List Include
-with_all_includes includes more =
-    fold (λ (all : List Include) (one : Include). and_include all one.world one.included) includes
-    more
+-- with more links, of several worlds, each where it isn't there
+abbrev pub with_links : List (ℕ × ℕ) → List (ℕ × ℕ) → List (ℕ × ℕ)
+with_links links more = fold (λ all (link : ℕ × ℕ). and_link all link.0 link.1) links more
 
 -- ---- after a merge
 
--- where a thing is now by a list of places; None where it is left out
-abbrev pub moved : List (Option ℕ) → ℕ → Option ℕ
-moved places i = option_and_then (λ (place : Option ℕ). place) (slice_get places i)
-
--- an import whose world and interface are now where these lists say
-abbrev pub moved_import : List (Option ℕ) → List (Option ℕ) → Import → Option Import
-moved_import worlds interfaces listed =
+-- a link of a world and a thing that are now where these lists say; None where one is left out
+abbrev pub moved_link : List (Option ℕ) → List (Option ℕ) → ℕ × ℕ → Option (ℕ × ℕ)
+moved_link worlds things link =
     option_and_then (λ w.
-    option_map (λ i. record { world = w; interface = i }) (moved interfaces listed.interface))
-    (moved worlds listed.world)
-
--- so an include
-abbrev pub moved_include : List (Option ℕ) → Include → Option Include
-moved_include worlds include =
-    option_and_then
-    (λ w. option_map (λ u. record { world = w; included = u }) (moved worlds include.included))
-    (moved worlds include.world)
+    option_map (λ thing. (w, thing)) (option_flatten (slice_get things link.1)))
+    (option_flatten (slice_get worlds link.0))
 
 -- what is listed with what another graph lists, whose worlds and interfaces are now where these lists say
 abbrev pub merged_listing : List (Option ℕ) → List (Option ℕ) → Listing → Listing → Listing
 merged_listing worlds interfaces other listing =
     record {
-      imports = with_all_imports listing.imports
-          (filter_map (moved_import worlds interfaces) other.imports);
-      includes = with_all_includes listing.includes
-          (filter_map (moved_include worlds) other.includes);
+      imports = with_links listing.imports
+          (filter_map (moved_link worlds interfaces) other.imports);
+      includes = with_links listing.includes
+          (filter_map (moved_link worlds worlds) other.includes);
     }

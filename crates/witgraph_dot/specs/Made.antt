@@ -1,9 +1,10 @@
 -- What lines list for the worlds of a script's graphs, as its commands are carried out.
-use Rattle.std.specs.Prelude.{◌≡◌, ℕ, Bool, true, false, List, [], ◌∷◌, ◌++◌, Option, None, Some, if◌then◌else◌}
+use Rattle.std.specs.Prelude.{◌≡◌, ℕ, Bool, true, false, List, Option, None, Some, if◌then◌else◌}
 use Rattle.wit_graph_data.specs.declared.error_kind.ResolveErrorKind.TheVariants.{OutOfMemory}
 use Rattle.wit_resolve_graph.specs.declared.command.Reply.{Reply}
 use Rattle.wit_resolve_graph.specs.declared.command.Reply.TheVariants as reply
-use Rattle.wit_script_explain.specs.Explained.{ExplainsCommand, place_of, rest_of}
+use Rattle.wit_script.specs.Answer.{InTurn}
+use Rattle.wit_script_explain.specs.Explained.{ExplainsCommand, with_places}
 use Rattle.wit_script_lines.specs.declared.request.Request.{Request}
 use Rattle.wit_script_explain.specs.Desk.{new_desk, working}
 use Rattle.wit_script_explain.specs.declared.desk.Desk.{Desk}
@@ -51,26 +52,17 @@ stage_after done answer desk first second =
     if came_to_something answer then with_working_effect desk done desk.second first second
     else record { desk = desk; first = first; second = second }
 
--- a command that doesn't want memory, what is told of it, and what there is after it
-abbrev pub CommandMakes : ScriptLines → CommandPlace → Stage → Request → List ℕ → Stage → Type 0
-CommandMakes script place before command text after =
+-- a command at its place that doesn't want memory, what is told of it, and what there is after it
+abbrev pub CommandMakes : ScriptLines → Stage → CommandPlace × Request → List ℕ → Stage → Type 0
+CommandMakes script before placed text after =
     (answer : Option Reply)
-    × ExplainsCommand script place before.desk command answer text after.desk
+    × ExplainsCommand script placed.0 before.desk placed.1 answer text after.desk
     × (answer ≡ Some (reply.Refused OutOfMemory) → ⊥)
     × (after
-    ≡ stage_after (request_effect (working before.desk).resolve.graph command) answer after.desk
+    ≡ stage_after (request_effect (working before.desk).resolve.graph placed.1) answer after.desk
     before.first before.second)
 
--- commands, one after another, which stand at these places, and what is told of them
-abbrev pub AllMake : ScriptLines → List CommandPlace → Stage → List Request → List ℕ → Stage
-    → Type 0
-AllMake script places before [] text after = (text ≡ []) × (after ≡ before)
-AllMake script places before (command ∷ commands) text after =
-    (between : Stage) × (first : List ℕ) × (rest : List ℕ)
-    × CommandMakes script (place_of script places) before command first between
-    × AllMake script (rest_of places) between commands rest after × (text ≡ first ++ rest)
-
--- the commands of a script, on an empty graph
+-- the commands of a script, on an empty graph, and what is told of them
 abbrev pub ScriptMakes : ScriptLines → List Request → List ℕ → Stage → Type 0
 ScriptMakes script commands text after =
-    AllMake script script.commands new_stage commands text after
+    InTurn (CommandMakes script) new_stage (with_places script script.commands commands) text after

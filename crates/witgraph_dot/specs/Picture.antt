@@ -44,11 +44,6 @@ picture_text v note =
     ++ (frame_texts v 0 v.graph.packages
     ++ (arrow_lines v ++ (LEGEND.now ++ (note_line note ++ END.now))))
 
--- what a choice shows of the first graph of a script, and a note
-abbrev pub drawn_text : Choice → Stage → List ℕ → List ℕ
-drawn_text choice stage note =
-    picture_text (chosen_view choice stage.desk.first.resolve.graph stage.first) note
-
 -- what is written of a script that is understood: what its comments choose of the first graph that is there after its
 -- commands, and what is told of them
 pub record DrawsScript (input text : List ℕ) : Type 0 where
@@ -57,7 +52,9 @@ pub record DrawsScript (input text : List ℕ) : Type 0 where
   pub note : List ℕ
   pub after : Stage
   pub made : ScriptMakes (script_lines_of (lines_of input)) commands note after
-  pub drawn : text ≡ drawn_text (choice_of (lines_of input)) after note
+  pub drawn : text
+      ≡ picture_text (chosen_view (choice_of (lines_of input)) after.desk.first.resolve.graph
+      after.first) note
 
 -- what is written of a script, and whether it is understood: of one that isn't, why
 abbrev pub Draws : List ℕ → Bool → List ℕ → Type 0

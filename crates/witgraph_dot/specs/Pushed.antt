@@ -14,9 +14,7 @@ use Rattle.wit_elaboration.specs.Entries.{keyed_interfaces}
 use Rattle.wit_graph_data.specs.Named.{interface_in, package_named, world_named}
 use Rattle.wit_graph_data.specs.declared.graph.Graph.{Graph}
 use Rattle.wit_names.specs.declared.package_name.PackageName.{PackageName}
-use Rattle.witgraph_dot.specs.Listed.{imports_of, includes_of, with_all_imports, with_all_includes, and_imports, and_includes}
-use Rattle.witgraph_dot.specs.declared.listing.Import.{Import}
-use Rattle.witgraph_dot.specs.declared.listing.Include.{Include}
+use Rattle.witgraph_dot.specs.Listed.{and_links, listed_for, with_links}
 
 -- ---- the things of a graph that a package names by an index of its own
 
@@ -84,67 +82,43 @@ abbrev pub line_includes : Graph → UnresolvedPackage → World → List ℕ
 line_includes g p world =
     filter_map (λ (include : WorldInclude). graph_world g p include.id) world.includes
 
--- what lines list for world w of a graph
-abbrev pub imports_for : List ℕ → ℕ → List Import
-imports_for interfaces w = map (λ i. record { world = w; interface = i }) interfaces
+-- these as links of world w of a graph
+abbrev pub links_for : List ℕ → ℕ → List (ℕ × ℕ)
+links_for things w = map (λ thing. (w, thing)) things
 
--- what lines include in world w of a graph
-abbrev pub includes_for : List ℕ → ℕ → List Include
-includes_for worlds w = map (λ u. record { world = w; included = u }) worlds
+-- these as links of a world, where the graph has it
+abbrev pub world_links : List ℕ → Option ℕ → List (ℕ × ℕ)
+world_links things found = option_map_or (links_for things) found []
 
--- what the lines of world w of a package list, where the graph has it
-abbrev pub world_imports : Graph → UnresolvedPackage → ℕ → World → List Import
-world_imports g p w world =
-    option_map_or (imports_for (line_imports g p world)) (graph_world g p w) []
+-- what lines list for the worlds of a package, by what they list for one
+abbrev pub links_in_package : (Graph → UnresolvedPackage → World → List ℕ) → Graph
+    → UnresolvedPackage → List (ℕ × ℕ)
+links_in_package lines g p =
+    flat_map (λ (at : ℕ × World). world_links (lines g p at.1) (graph_world g p at.0))
+    (enumerate_from 0 p.worlds)
 
-abbrev pub world_includes : Graph → UnresolvedPackage → ℕ → World → List Include
-world_includes g p w world =
-    option_map_or (includes_for (line_includes g p world)) (graph_world g p w) []
-
--- so of all worlds of a package
-abbrev pub imports_in_package : Graph → UnresolvedPackage → List Import
-imports_in_package g p =
-    flat_map (λ (at : ℕ × World). world_imports g p at.0 at.1) (enumerate_from 0 p.worlds)
-
-abbrev pub includes_in_package : Graph → UnresolvedPackage → List Include
-includes_in_package g p =
-    flat_map (λ (at : ℕ × World). world_includes g p at.0 at.1) (enumerate_from 0 p.worlds)
-
--- the packages of groups
-abbrev pub group_packages : List UnresolvedPackageGroup → List UnresolvedPackage
-group_packages groups =
-    flat_map (λ (group : UnresolvedPackageGroup). group.main ∷ group.nested) groups
-
-abbrev pub group_imports : Graph → List UnresolvedPackageGroup → List Import
-group_imports g groups = flat_map (imports_in_package g) (group_packages groups)
-
-abbrev pub group_includes : Graph → List UnresolvedPackageGroup → List Include
-group_includes g groups = flat_map (includes_in_package g) (group_packages groups)
+-- so for those of all packages of groups
+abbrev pub group_links : (Graph → UnresolvedPackage → World → List ℕ) → Graph
+    → List UnresolvedPackageGroup → List (ℕ × ℕ)
+group_links lines g groups =
+    flat_map (links_in_package lines g)
+    (flat_map (λ (group : UnresolvedPackageGroup). group.main ∷ group.nested) groups)
 
 -- ---- what is listed
 
 -- what is listed for an included world is listed for the world that includes it
-abbrev pub with_brought_imports : List Import → Include → List Import
-with_brought_imports imports one = and_imports imports one.world (imports_of one.included imports)
-
--- what an included world includes, the world includes that includes it
-abbrev pub with_brought_includes : List Include → Include → List Include
-with_brought_includes includes one =
-    and_includes includes one.world (includes_of one.included includes)
+abbrev pub with_brought : List (ℕ × ℕ) → ℕ × ℕ → List (ℕ × ℕ)
+with_brought links include = and_links links include.0 (listed_for include.1 links)
 
 -- so by each of some includes in turn, so many times over
-abbrev pub repeated : {A : Type 0} → (A → Include → A) → List Include → ℕ → A → A
-repeated brings includes zero all = all
-repeated brings includes (suc times) all = repeated brings includes times (fold brings all includes)
+abbrev pub repeated : List (ℕ × ℕ) → ℕ → List (ℕ × ℕ) → List (ℕ × ℕ)
+repeated includes zero links = links
+repeated includes (suc times) links = repeated includes times (fold with_brought links includes)
 
 -- what is listed after a push of groups: also what their lines list, and along chains of includes, which have no more links than
 -- there are lines
-abbrev pub pushed_imports : Graph → List UnresolvedPackageGroup → List Import → List Import
-pushed_imports g groups imports =
-    repeated with_brought_imports (group_includes g groups) (length (group_includes g groups))
-    (with_all_imports imports (group_imports g groups))
-
-abbrev pub pushed_includes : Graph → List UnresolvedPackageGroup → List Include → List Include
-pushed_includes g groups includes =
-    repeated with_brought_includes (group_includes g groups) (length (group_includes g groups))
-    (with_all_includes includes (group_includes g groups))
+abbrev pub pushed : (Graph → UnresolvedPackage → World → List ℕ) → Graph
+    → List UnresolvedPackageGroup → List (ℕ × ℕ) → List (ℕ × ℕ)
+pushed lines g groups links =
+    repeated (group_links line_includes g groups) (length (group_links line_includes g groups))
+    (with_links links (group_links lines g groups))

@@ -7,20 +7,18 @@ use Rattle.wit_graph_data.specs.Queries.{interface_direct_deps}
 use Rattle.wit_graph_data.specs.declared.graph.Graph.{Graph}
 use Rattle.witgraph_dot.specs.Bundles.{bundle, frame_arrows, frames_but, whole_frames}
 use Rattle.witgraph_dot.specs.Entries.{own_exports, own_imports}
-use Rattle.witgraph_dot.specs.Listed.{imports_of, has_include, includes_of}
+use Rattle.witgraph_dot.specs.Listed.{listed_for, has_link}
 use Rattle.witgraph_dot.specs.Sets.{are_among, is_one_of, intersection, without}
 use Rattle.witgraph_dot.specs.declared.arrow.Arrow.{Arrow}
 use Rattle.witgraph_dot.specs.declared.arrow.ArrowKind.TheVariants as kind
 use Rattle.witgraph_dot.specs.declared.arrow.Target.TheVariants as target
-use Rattle.witgraph_dot.specs.declared.listing.Import.{Import}
-use Rattle.witgraph_dot.specs.declared.listing.Include.{Include}
 use Rattle.witgraph_dot.specs.declared.scene.Scene.{Scene}
 
 -- a graph, what lines list and include, and what is shown: interfaces, worlds, the interfaces of each package
 pub record View : Type 0 where
   pub graph : Graph
-  pub imports : List Import
-  pub includes : List Include
+  pub imports : List (ℕ × ℕ)
+  pub includes : List (ℕ × ℕ)
   pub interfaces : List ℕ
   pub worlds : List ℕ
   pub frames : List (List ℕ)
@@ -39,15 +37,11 @@ view_of scene = record {
 
 -- ---- from interfaces
 
--- the interfaces that interface i uses and that are shown, each once
-abbrev pub shown_uses : View → ℕ → List ℕ
-shown_uses v i =
-    first_of_each
-    (filter (is_one_of v.interfaces) (interface_direct_deps v.graph.types v.graph.interfaces i))
-
--- the arrows from interface i
+-- the arrows from interface i: to the interfaces that it uses and that are shown, each once
 abbrev pub uses_arrows : View → ℕ → List Arrow
-uses_arrows v i = bundle v.frames kind.Used (shown_uses v i)
+uses_arrows v i =
+    bundle v.frames kind.Used (first_of_each
+    (filter (is_one_of v.interfaces) (interface_direct_deps v.graph.types v.graph.interfaces i)))
 
 -- ---- from worlds to worlds that they include
 
@@ -64,16 +58,16 @@ is_included v w w' =
     (own_imports (slice_get v.graph.worlds w)))
 
 -- one of some worlds includes world w
-abbrev pub is_included_by_any : List Include → List ℕ → ℕ → Bool
-is_included_by_any included worlds w = list_any (λ u. has_include included u w) worlds
+abbrev pub is_included_by_any : List (ℕ × ℕ) → List ℕ → ℕ → Bool
+is_included_by_any included worlds w = list_any (λ u. has_link included u w) worlds
 
 -- the worlds that no other of them includes
-abbrev pub outermost : List Include → List ℕ → List ℕ
+abbrev pub outermost : List (ℕ × ℕ) → List ℕ → List ℕ
 outermost included worlds = filter (λ w. not (is_included_by_any included worlds w)) worlds
 
 -- the worlds to which one arrow leads in place of arrows to all that they import
 abbrev pub included_worlds : View → ℕ → List ℕ
-included_worlds v w = outermost v.includes (filter (is_included v w) (includes_of w v.includes))
+included_worlds v w = outermost v.includes (filter (is_included v w) (listed_for w v.includes))
 
 -- an arrow to each of some worlds
 abbrev pub included_arrows : List ℕ → List Arrow
@@ -97,38 +91,29 @@ left_imports v w =
 -- of that what some included world imports, shown or not
 abbrev pub brought_imports : View → ℕ → List ℕ
 brought_imports v w =
-    intersection (left_imports v w) (included_imports v.graph.worlds (includes_of w v.includes))
+    intersection (left_imports v w) (included_imports v.graph.worlds (listed_for w v.includes))
 
--- what stands in whole frames of what included worlds import
-abbrev pub bundled_imports : View → ℕ → List ℕ
-bundled_imports v w = whole_frames (import_frames v w) (brought_imports v w)
-
--- of what is left that which stands in none of these
+-- of what is left that which stands in no whole frame of what included worlds import
 abbrev pub single_imports : View → ℕ → List ℕ
-single_imports v w = without (left_imports v w) (bundled_imports v w)
-
--- of what is left the arrows to what lines list, and to what elaboration added
-abbrev pub listed_arrows : View → ℕ → List Arrow
-listed_arrows v w =
-    bundle (import_frames v w) kind.Listed
-    (intersection (single_imports v w) (imports_of w v.imports))
-
-abbrev pub unlisted_arrows : View → ℕ → List Arrow
-unlisted_arrows v w =
-    bundle (import_frames v w) kind.Added (without (single_imports v w) (imports_of w v.imports))
+single_imports v w =
+    without (left_imports v w) (whole_frames (import_frames v w) (brought_imports v w))
 
 -- the arrows to what world w imports: to included worlds, to whole frames that included worlds import, and then to what lines
 -- list and to what elaboration added
 abbrev pub import_arrows : View → ℕ → List Arrow
 import_arrows v w =
+    let frames = import_frames v w in
+    let single = single_imports v w in
+    let listed = listed_for w v.imports in
     included_arrows (included_worlds v w)
-    ++ (frame_arrows (import_frames v w) kind.Listed (brought_imports v w)
-    ++ (listed_arrows v w ++ unlisted_arrows v w))
+    ++ (frame_arrows frames kind.Listed (brought_imports v w)
+    ++ (bundle frames kind.Listed (intersection single listed)
+    ++ bundle frames kind.Added (without single listed)))
 
 -- the arrows to what elaboration added alone
 abbrev pub added_arrows : View → ℕ → List Arrow
 added_arrows v w =
-    bundle (import_frames v w) kind.Added (without (shown_imports v w) (imports_of w v.imports))
+    bundle (import_frames v w) kind.Added (without (shown_imports v w) (listed_for w v.imports))
 
 -- the arrows to what world w exports
 abbrev pub export_arrows : View → ℕ → List Arrow

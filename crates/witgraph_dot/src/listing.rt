@@ -1,44 +1,32 @@
 //! The imports that lines list, and the worlds that they include.
 ghost use Rattle.std.specs.Prelude.{◌≡◌, IfOk, OnOk, filter_map, length};
-ghost use Rattle.witgraph_dot.specs.Listed.{imports_of, has_include, includes_of, lists, merged_listing, moved_import, moved_include, new_listing, others_of, and_import, and_imports, and_include, and_includes};
+ghost use Rattle.witgraph_dot.specs.Listed.{and_link, and_links, has_link, listed_for, merged_listing, moved_link, new_listing, others_of};
 
 use std::alloc::{AllocError, Global};
 use wit_resolve_graph::{InterfaceId, Items, Remap, WorldId};
 
-/// That a world imports an interface under the interface's own id.
-#[derive(Clone, Copy)]
-struct Import {
-    world: WorldId,
-    interface: InterfaceId,
+/// A world, and an interface that it imports under the interface's own id.
+type Import = (WorldId, InterfaceId);
+
+/// A world, and another that it includes, by a line or by one of a world that it includes.
+pub type Include = (WorldId, WorldId);
+
+/// An import of things that are now where a remap says; None where one is left out.
+fn moved_import(import: &Import, remap: &Remap) -> Option<Import>
+    ensures { result ≡ moved_link remap.now.worlds remap.now.interfaces import.now }
+{
+    let world = (*remap.worlds().get(import.0.index())?)?;
+    let interface = (*remap.interfaces().get(import.1.index())?)?;
+    Some((world, interface))
 }
 
-impl Import {
-    /// The same of things that are now where a remap says; None where one is left out.
-    fn moved(&self, remap: &Remap) -> Option<Import>
-        ensures { result ≡ moved_import remap.now.worlds remap.now.interfaces self.now }
-    {
-        let world = (*remap.worlds().get(self.world.index())?)?;
-        let interface = (*remap.interfaces().get(self.interface.index())?)?;
-        Some(Import { world, interface })
-    }
-}
-
-/// That a world includes another, by a line or by one of a world that it includes.
-#[derive(Clone, Copy)]
-pub struct Include {
-    pub world: WorldId,
-    pub included: WorldId,
-}
-
-impl Include {
-    /// The same of worlds that are now where a remap says; None where one is left out.
-    fn moved(&self, remap: &Remap) -> Option<Include>
-        ensures { result ≡ moved_include remap.now.worlds self.now }
-    {
-        let world = (*remap.worlds().get(self.world.index())?)?;
-        let included = (*remap.worlds().get(self.included.index())?)?;
-        Some(Include { world, included })
-    }
+/// So an include.
+fn moved_include(include: &Include, remap: &Remap) -> Option<Include>
+    ensures { result ≡ moved_link remap.now.worlds remap.now.worlds include.now }
+{
+    let world = (*remap.worlds().get(include.0.index())?)?;
+    let included = (*remap.worlds().get(include.1.index())?)?;
+    Some((world, included))
 }
 
 /// The imports that lines list, and the worlds that they include. What a world imports beside the former under an
@@ -74,20 +62,22 @@ impl Listing {
 
     /// Whether a line lists this interface for this world.
     pub fn has(&self, world: WorldId, interface: InterfaceId) -> bool
-        ensures { result ≡ lists self.now.imports world interface }
+        ensures { result ≡ has_link self.now.imports world interface }
     {
-        self.imports.iter().any(|import| import.world == world && import.interface == interface)
+        self.imports
+            .iter()
+            .any(|import| import.0 == world && import.1 == interface)
     }
 
     /// What lines list for a world.
     pub fn imports_of(&self, alloc: Global, world: WorldId) -> Result<Vec<InterfaceId>, AllocError>
         ensures { IfOk result
-            (λ interfaces. interfaces.items ≡ imports_of world self.now.imports) }
+            (λ interfaces. interfaces.items ≡ listed_for world self.now.imports) }
     {
         let mut interfaces = Vec::new(alloc);
         for import in self.imports.as_slice() {
-            if import.world == world {
-                interfaces.push(import.interface)?;
+            if import.0 == world {
+                interfaces.push(import.1)?;
             }
         }
         Ok(interfaces)
@@ -96,11 +86,11 @@ impl Listing {
     /// Adds an interface to what is listed for a world.
     pub fn add(&mut self, world: WorldId, interface: InterfaceId) -> Result<(), AllocError>
         ensures listed { OnOk result
-            (self.new.imports ≡ and_import self.old.imports world interface) }
+            (self.new.imports ≡ and_link self.old.imports world interface) }
         ensures included { self.new.includes ≡ self.old.includes }
     {
         if !self.has(world, interface) {
-            self.imports.push(Import { world, interface })?;
+            self.imports.push((world, interface))?;
         }
         Ok(())
     }
@@ -108,7 +98,7 @@ impl Listing {
     /// Adds these interfaces to what is listed for a world.
     pub fn add_all(&mut self, world: WorldId, interfaces: &[InterfaceId]) -> Result<(), AllocError>
         ensures listed { OnOk result
-            (self.new.imports ≡ and_imports self.old.imports world interfaces.now) }
+            (self.new.imports ≡ and_links self.old.imports world interfaces.now) }
         ensures included { self.new.includes ≡ self.old.includes }
     {
         for interface in interfaces {
@@ -119,19 +109,21 @@ impl Listing {
 
     /// Whether a world includes another.
     pub fn includes(&self, world: WorldId, included: WorldId) -> bool
-        ensures { result ≡ has_include self.now.includes world included }
+        ensures { result ≡ has_link self.now.includes world included }
     {
-        self.includes.iter().any(|include| include.world == world && include.included == included)
+        self.includes
+            .iter()
+            .any(|include| include.0 == world && include.1 == included)
     }
 
     /// The worlds that a world includes.
     pub fn includes_of(&self, alloc: Global, world: WorldId) -> Result<Vec<WorldId>, AllocError>
-        ensures { IfOk result (λ worlds. worlds.items ≡ includes_of world self.now.includes) }
+        ensures { IfOk result (λ worlds. worlds.items ≡ listed_for world self.now.includes) }
     {
         let mut worlds = Vec::new(alloc);
         for include in self.includes.as_slice() {
-            if include.world == world {
-                worlds.push(include.included)?;
+            if include.0 == world {
+                worlds.push(include.1)?;
             }
         }
         Ok(worlds)
@@ -140,11 +132,11 @@ impl Listing {
     /// Adds a world to those that a world includes.
     pub fn add_include(&mut self, world: WorldId, included: WorldId) -> Result<(), AllocError>
         ensures included { OnOk result
-            (self.new.includes ≡ and_include self.old.includes world included) }
+            (self.new.includes ≡ and_link self.old.includes world included) }
         ensures listed { self.new.imports ≡ self.old.imports }
     {
         if !self.includes(world, included) {
-            self.includes.push(Include { world, included })?;
+            self.includes.push((world, included))?;
         }
         Ok(())
     }
@@ -152,7 +144,7 @@ impl Listing {
     /// Adds these worlds to those that a world includes.
     pub fn add_includes(&mut self, world: WorldId, included: &[WorldId]) -> Result<(), AllocError>
         ensures included { OnOk result
-            (self.new.includes ≡ and_includes self.old.includes world included.now) }
+            (self.new.includes ≡ and_links self.old.includes world included.now) }
         ensures listed { self.new.imports ≡ self.old.imports }
     {
         for other in included {
@@ -169,12 +161,12 @@ impl Listing {
         interfaces: &[InterfaceId],
     ) -> Result<(), AllocError>
         ensures listed { OnOk result (self.new.imports
-            ≡ and_imports (others_of world self.old.imports) world interfaces.now) }
+            ≡ and_links (others_of world self.old.imports) world interfaces.now) }
         ensures included { self.new.includes ≡ self.old.includes }
     {
         let mut imports = Items::new(alloc);
         for import in self.imports.as_slice() {
-            if import.world != world {
+            if import.0 != world {
                 imports.push(*import)?;
             }
         }
@@ -188,12 +180,12 @@ impl Listing {
             ≡ merged_listing remap.now.worlds remap.now.interfaces other.now self.old) }
     {
         for import in other.imports.as_slice() {
-            if let Some(Import { world, interface }) = import.moved(remap) {
+            if let Some((world, interface)) = moved_import(import, remap) {
                 self.add(world, interface)?;
             }
         }
         for include in other.includes.as_slice() {
-            if let Some(Include { world, included }) = include.moved(remap) {
+            if let Some((world, included)) = moved_include(include, remap) {
                 self.add_include(world, included)?;
             }
         }

@@ -38,11 +38,10 @@ use crate::stage::Stage;
 use std::alloc::{AllocError, Global};
 use std::io;
 use std::process::ExitCode;
-use wit_arguments::Asked;
 use wit_resolve_graph::{ResolveError, ResolveResult};
 use wit_script::{ReadFault, read_script};
 use wit_script_explain::{explain_misread, script_lines};
-use wit_streams::{StreamFault, Watched, exit_status, read_all, write_all};
+use wit_streams::{Asked, StreamFault, Watched, exit_status, read_all, write_all};
 
 /// How the program is called.
 const USAGE: &str = "usage: witgraph_dot < SCRIPT

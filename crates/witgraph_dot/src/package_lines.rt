@@ -1,7 +1,7 @@
 //! What the lines of packages list.
 ghost use Rattle.std.specs.Prelude.{◌≡◌, ◌++◌, OnOk, flat_map, fold};
-ghost use Rattle.witgraph_dot.specs.Listed.{with_all_includes, with_all_imports, and_imports};
-ghost use Rattle.witgraph_dot.specs.Pushed.{includes_for, line_imports, line_includes, imports_in_package, includes_in_package, pushed_imports, pushed_includes, with_brought_imports, with_brought_includes, world_imports, world_includes};
+ghost use Rattle.witgraph_dot.specs.Listed.{and_links, with_links};
+ghost use Rattle.witgraph_dot.specs.Pushed.{graph_world, line_imports, line_includes, links_for, links_in_package, pushed, with_brought, world_links};
 
 use crate::listing::{Include, Listing};
 use crate::names::{graph_interface, graph_world};
@@ -18,9 +18,9 @@ pub fn list_groups(
     listing: &mut Listing,
 ) -> Result<(), AllocError>
     ensures imports { OnOk result (listing.new.imports
-        ≡ pushed_imports resolve.now.graph groups.now listing.old.imports) }
+        ≡ pushed line_imports resolve.now.graph groups.now listing.old.imports) }
     ensures includes { OnOk result (listing.new.includes
-        ≡ pushed_includes resolve.now.graph groups.now listing.old.includes) }
+        ≡ pushed line_includes resolve.now.graph groups.now listing.old.includes) }
 {
     let mut includes = Vec::new(alloc);
     for group in groups {
@@ -46,15 +46,16 @@ fn list_included(
     listing: &mut Listing,
 ) -> Result<(), AllocError>
     ensures imports { OnOk result (listing.new.imports
-        ≡ fold with_brought_imports listing.old.imports includes.now) }
+        ≡ fold with_brought listing.old.imports includes.now) }
     ensures includes { OnOk result (listing.new.includes
-        ≡ fold with_brought_includes listing.old.includes includes.now) }
+        ≡ fold with_brought listing.old.includes includes.now) }
 {
     for include in includes {
-        let imports = listing.imports_of(alloc, include.included)?;
-        listing.add_all(include.world, &imports)?;
-        let included = listing.includes_of(alloc, include.included)?;
-        listing.add_includes(include.world, &included)?;
+        let (world, included) = *include;
+        let imports = listing.imports_of(alloc, included)?;
+        listing.add_all(world, &imports)?;
+        let others = listing.includes_of(alloc, included)?;
+        listing.add_includes(world, &others)?;
     }
     Ok(())
 }
@@ -67,13 +68,14 @@ fn list_packages(
     includes: &mut Vec<Include>,
 ) -> Result<(), AllocError>
     ensures imports { OnOk result (listing.new.imports
-        ≡ with_all_imports listing.old.imports
-        (flat_map (imports_in_package resolve.now.graph) packages.now)) }
+        ≡ with_links listing.old.imports
+        (flat_map (links_in_package line_imports resolve.now.graph) packages.now)) }
     ensures includes { OnOk result (listing.new.includes
-        ≡ with_all_includes listing.old.includes
-        (flat_map (includes_in_package resolve.now.graph) packages.now)) }
+        ≡ with_links listing.old.includes
+        (flat_map (links_in_package line_includes resolve.now.graph) packages.now)) }
     ensures gathered { OnOk result (includes.new.items
-        ≡ includes.old.items ++ flat_map (includes_in_package resolve.now.graph) packages.now) }
+        ≡ includes.old.items
+        ++ flat_map (links_in_package line_includes resolve.now.graph) packages.now) }
 {
     for package in packages {
         list_package(resolve, package, listing, includes)?;
@@ -89,13 +91,14 @@ fn list_package(
     includes: &mut Vec<Include>,
 ) -> Result<(), AllocError>
     ensures imports { OnOk result (listing.new.imports
-        ≡ with_all_imports listing.old.imports
-        (imports_in_package resolve.now.graph «package».now)) }
+        ≡ with_links listing.old.imports
+        (links_in_package line_imports resolve.now.graph «package».now)) }
     ensures includes { OnOk result (listing.new.includes
-        ≡ with_all_includes listing.old.includes
-        (includes_in_package resolve.now.graph «package».now)) }
+        ≡ with_links listing.old.includes
+        (links_in_package line_includes resolve.now.graph «package».now)) }
     ensures gathered { OnOk result (includes.new.items
-        ≡ includes.old.items ++ includes_in_package resolve.now.graph «package».now) }
+        ≡ includes.old.items
+        ++ links_in_package line_includes resolve.now.graph «package».now) }
 {
     for (index, world) in package.worlds.as_slice().iter().enumerate() {
         list_world(resolve, package, world, index, listing, includes)?;
@@ -113,13 +116,17 @@ fn list_world(
     includes: &mut Vec<Include>,
 ) -> Result<(), AllocError>
     ensures imports { OnOk result (listing.new.imports
-        ≡ with_all_imports listing.old.imports
-        (world_imports resolve.now.graph «package».now index world.now)) }
+        ≡ with_links listing.old.imports
+        (world_links (line_imports resolve.now.graph «package».now world.now)
+        (graph_world resolve.now.graph «package».now index))) }
     ensures includes { OnOk result (listing.new.includes
-        ≡ with_all_includes listing.old.includes
-        (world_includes resolve.now.graph «package».now index world.now)) }
+        ≡ with_links listing.old.includes
+        (world_links (line_includes resolve.now.graph «package».now world.now)
+        (graph_world resolve.now.graph «package».now index))) }
     ensures gathered { OnOk result (includes.new.items
-        ≡ includes.old.items ++ world_includes resolve.now.graph «package».now index world.now) }
+        ≡ includes.old.items
+        ++ world_links (line_includes resolve.now.graph «package».now world.now)
+        (graph_world resolve.now.graph «package».now index)) }
 {
     let Some(id) = graph_world(resolve, package, WorldId::from_index(index)) else {
         return Ok(());
@@ -137,7 +144,7 @@ fn list_imports(
     listing: &mut Listing,
 ) -> Result<(), AllocError>
     ensures imports { OnOk result (listing.new.imports
-        ≡ and_imports listing.old.imports id
+        ≡ and_links listing.old.imports id
         (line_imports resolve.now.graph «package».now world.now)) }
     ensures includes { listing.new.includes ≡ listing.old.includes }
 {
@@ -162,19 +169,16 @@ fn list_includes(
 ) -> Result<(), AllocError>
     ensures imports { listing.new.imports ≡ listing.old.imports }
     ensures includes { OnOk result (listing.new.includes
-        ≡ with_all_includes listing.old.includes
-        (includes_for (line_includes resolve.now.graph «package».now world.now) id)) }
+        ≡ with_links listing.old.includes
+        (links_for (line_includes resolve.now.graph «package».now world.now) id)) }
     ensures gathered { OnOk result (includes.new.items
         ≡ includes.old.items
-        ++ includes_for (line_includes resolve.now.graph «package».now world.now) id) }
+        ++ links_for (line_includes resolve.now.graph «package».now world.now) id) }
 {
     for include in world.includes.as_slice() {
         if let Some(included) = graph_world(resolve, package, include.id) {
             listing.add_include(id, included)?;
-            includes.push(Include {
-                world: id,
-                included,
-            })?;
+            includes.push((id, included))?;
         }
     }
     Ok(())

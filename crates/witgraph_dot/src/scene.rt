@@ -2,7 +2,7 @@
 ghost use Rattle.std.specs.Prelude.{◌≡◌, ◌++◌, ◌<◌, IfOk, OnOk, length, slice_get};
 ghost use Rattle.wit_graph_data.specs.Queries.{interface_direct_deps};
 ghost use Rattle.witgraph_dot.specs.Bundles.{frames_of};
-ghost use Rattle.witgraph_dot.specs.Listed.{includes_of};
+ghost use Rattle.witgraph_dot.specs.Listed.{listed_for};
 ghost use Rattle.witgraph_dot.specs.Sets.{intersection, without};
 ghost use Rattle.witgraph_dot.specs.Scene.{added_arrows, brought_imports, export_arrows, import_arrows, import_frames, included_arrows, included_imports, included_worlds, is_included, is_included_by_any, left_imports, outermost, shown_imports, uses_arrows, view_of, entry_arrows};
 ghost use Rattle.witgraph_dot.specs.Shown.{shown_interfaces, shown_worlds};
@@ -147,7 +147,7 @@ impl<'a> Scene<'a> {
         ensures { IfOk result (λ brought. brought.items
             ≡ intersection left.now
             (included_imports self.now.resolve.now.graph.worlds
-            (includes_of world self.now.listing.now.includes))) }
+            (listed_for world self.now.listing.now.includes))) }
     {
         let included = self.listing.includes_of(alloc, world)?;
         let all = included_imports(alloc, self.resolve, &included)?;

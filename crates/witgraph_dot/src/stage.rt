@@ -1,7 +1,9 @@
 //! A script as it is carried out.
-ghost use Rattle.std.specs.Prelude.{◌≡◌, Some, IfOk, OnOk, string_bytes};
+ghost use Rattle.std.specs.Prelude.{◌≡◌, Some, IfOk, OnOk, false, is_some, string_bytes};
 ghost use Rattle.wit_graph_data.specs.declared.error_kind.ResolveErrorKind.TheVariants.{OutOfMemory};
 ghost use Rattle.wit_resolve_graph.specs.declared.command.Reply.TheVariants.{Refused};
+ghost use Rattle.wit_script.specs.Ready.{CanAllBeAsked};
+ghost use Rattle.wit_script.specs.steps.Ready.{CanBeAsked};
 ghost use Rattle.witgraph_dot.specs.Made.{CommandMakes, ScriptMakes, came_to_something, joined, new_stage, stage_after, with_working_effect};
 
 use crate::effect::Effect;
@@ -34,13 +36,14 @@ impl Stage {
         }
     }
 
-    /// What there is after the commands of a script, on an empty graph, and what is told of them. The only refusal is want
-    /// of memory, in a command or outside.
+    /// What there is after the commands of a script, on an empty graph, and what is told of them; each can be asked after
+    /// those before it. The only refusal is want of memory, in a command or outside.
     pub fn after(
         alloc: Global,
         script: &ScriptLines,
         commands: Items<ReadyCommand>,
     ) -> ResolveResult<(Stage, String)>
+        requires { CanAllBeAsked commands false }
         ensures { IfOk result (λ made.
             ScriptMakes script.now commands (string_bytes made.1) made.0) }
     {
@@ -65,8 +68,9 @@ impl Stage {
         place: &CommandPlace,
         command: ReadyCommand,
     ) -> ResolveResult<String>
+        requires { CanBeAsked command (is_some self.old.desk.second) }
         ensures { IfOk result (λ text.
-            CommandMakes script.now place.now self.old command (string_bytes text) self.new) }
+            CommandMakes script.now self.old (place.now, command) (string_bytes text) self.new) }
     {
         let request = command.into_request();
         let effect = Effect::of_request(alloc, &self.desk, &request)?;

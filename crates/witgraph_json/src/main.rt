@@ -3,9 +3,8 @@
 
 use std::io;
 use std::process::ExitCode;
-use wit_arguments::Asked;
 use wit_json_commands::execute;
-use wit_streams::{StreamFault, Watched, exit_status};
+use wit_streams::{Asked, StreamFault, Watched, exit_status};
 
 /// How the program is called.
 const USAGE: &str = "usage: witgraph_json < DOCUMENT

@@ -5,9 +5,11 @@ mod errors;
 #[cfg(feature = "serde")]
 mod hand_on;
 pub mod json;
+mod printing;
 mod questions;
 mod resolve;
 #[cfg(feature = "serde")]
 mod serde;
 
+pub use printing::{print_graph, print_package};
 pub use resolve::Resolve;

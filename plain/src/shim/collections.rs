@@ -18,6 +18,10 @@ impl<K: Ord, V> BTreeMap<K, V> {
         self.0.get(key)
     }
 
+    pub fn remove(&mut self, key: &K) -> Option<V> {
+        self.0.remove(key)
+    }
+
     pub fn contains_key(&self, key: &K) -> bool {
         self.0.contains_key(key)
     }

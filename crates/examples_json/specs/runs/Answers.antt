@@ -84,6 +84,13 @@ pub record ExamplesOfAnswers : Type 0 where
   pub not_null : answer_text answer.Done ≢ codes "null"
   pub no_world : answer_text answer.NoWorld ≡ codes "\"no-world\""
   pub not_done : answer_text answer.NoWorld ≢ codes "\"done\""
+  pub no_package : answer_text answer.NoPackage ≡ codes "\"no-package\""
+  -- a world that was changed, and the keys that no import of it had
+  pub changed : answer_text (answer.ChangedWorld 2 []) ≡ codes "{\"done\":{\"world\":2}}"
+  pub unmatched : answer_text (answer.ChangedWorld 2 (codes "a:b/i" ∷ codes "l" ∷ []))
+      ≡ codes "{\"done\":{\"world\":2,\"unmatched\":[\"a:b/i\",\"l\"]}}"
+  pub not_empty : answer_text (answer.ChangedWorld 2 [])
+      ≢ codes "{\"done\":{\"world\":2,\"unmatched\":[]}}"
   pub not_found : answer_text answer.NotFound ≡ codes "\"not-found\""
   -- ids under words
   pub pushed : answer_text (answer.Pushed 3) ≡ codes "{\"pushed\":3}"

@@ -15,7 +15,9 @@ use Rattle.wit_ways.specs.declared.asked.Asked.TheVariants as asks
 use Rattle.wit_json_commands.specs.Documents.{first_state}
 use Rattle.wit_resolve_graph.specs.Step.{command_of}
 use Rattle.wit_json_commands.specs.Runs.{AnswersReply, RespondsEach}
-use Rattle.examples_json.specs.runs.Questions.{foo_bar}
+use Rattle.wit_json_commands.specs.Targets.{target_of}
+use Rattle.wit_json_commands.specs.declared.runs.targets.Target.TheVariants as target
+use Rattle.examples_json.specs.runs.Questions.{asked_graph, foo_bar, not_there}
 
 -- an empty graph with a feature on, and the other rule of tracks
 abbrev pub begun : ResolveParts
@@ -43,11 +45,30 @@ pub record ExamplesOfChanges : Type 0 where
   pub not_turned : change_text (change.Importize foo_bar (codes "w") None)
       ≢ codes "exportize foo:bar w"
   -- the answer that a reply is
-  pub done : AnswersReply new_state (codes "semver a:b w") asks.Other reply.Done answer.Done
-  pub pushed : AnswersReply new_state (codes "push-groups a:b") asks.Other (reply.Pushed 2)
-      (answer.Pushed 2)
-  pub no_world : AnswersReply new_state (codes "semver a:b w") asks.Other reply.NoWorld answer.Done
-      → ⊥
+  pub done : AnswersReply new_state (codes "add-feature f") target.Graph asks.Other reply.Done
+      answer.Done
+  pub changed : AnswersReply new_state (codes "semver a:b w") (target.World 3 []) asks.Other
+      reply.Done (answer.ChangedWorld 3 [])
+  pub pushed : AnswersReply new_state (codes "push-groups a:b") target.Graph asks.Other
+      (reply.Pushed 2) (answer.Pushed 2)
+  pub no_world : AnswersReply new_state (codes "semver a:b w") target.NoWorld asks.Other
+      reply.NoWorld answer.Done → ⊥
+  pub no_package : AnswersReply new_state (codes "semver a:b w") target.NoPackage asks.Other
+      reply.NoWorld answer.NoPackage
+  -- what names lead to: a world with the keys that none of its imports has, each as often as it is listed
+  pub unmatched : target_of asked_graph
+      (command.Exportize foo_bar (codes "w") None
+      (Some (codes "foo:bar/c" ∷ codes "foo:bar/b" ∷ codes "run" ∷ codes "foo:bar/c" ∷ [])))
+      ≡ target.World 0 (codes "foo:bar/c" ∷ codes "run" ∷ codes "foo:bar/c" ∷ [])
+  pub all_matched : target_of asked_graph
+      (command.Exportize foo_bar (codes "w") None (Some (codes "foo:x/a@0.2.1" ∷ [])))
+      ≡ target.World 0 []
+  pub without_keys : target_of asked_graph (command.Exportize foo_bar (codes "w") None None)
+      ≡ target.World 0 []
+  pub of_semver : target_of asked_graph (command.Semver foo_bar (codes "w")) ≡ target.World 0 []
+  pub absent : target_of asked_graph (command.Importize foo_bar (codes "v") None) ≡ target.NoWorld
+  pub homeless : target_of asked_graph (command.Semver not_there (codes "w")) ≡ target.NoPackage
+  pub nameless : target_of asked_graph (command.AddFeature (codes "f")) ≡ target.Graph
   -- what a document begins with
   pub empty : first_state None ≡ new_state
   pub given : (first_state (Some begun)).features.all ≡ true

@@ -10,7 +10,7 @@ use Rattle.wit_graph_data.specs.declared.error_kind.ResolveErrorKind.TheVariants
 use Rattle.wit_graph_data.specs.declared.graph.Graph.{Graph}
 use Rattle.wit_graph_data.specs.Named.{world_named}
 use Rattle.wit_resolve_graph.specs.State.{State, new_state}
-use Rattle.wit_resolve_graph.specs.Step.{Run, Step}
+use Rattle.wit_resolve_graph.specs.Step.{Run, Step, command_of}
 use Rattle.wit_resolve_graph.specs.declared.command.Command.{Command}
 use Rattle.wit_resolve_graph.specs.declared.command.Reply.{Reply}
 use Rattle.wit_resolve_graph.specs.declared.command.Reply.TheVariants as reply
@@ -19,9 +19,13 @@ use Rattle.wit_semver.specs.SemverMerged.{semver_merged, IsSemverMergeCause}
 use Rattle.examples_resolve.specs.merge.CauseExamples.{ExamplesOfCauses, failed, without_type}
 use Rattle.examples_resolve.specs.merge.Releases.{foo_main}
 use Rattle.examples_resolve.specs.merge.SemverMergeExamples.{ExamplesOfSemverMerges, ExamplesOfRules, first_release, of_three, three}
-use Rattle.wit_script.specs.Answer.{line_unless_done}
+use Rattle.wit_commands.specs.Change.{is_setting}
+use Rattle.wit_commands.specs.declared.change.Change.{Change}
+use Rattle.wit_commands.specs.declared.change.Change.TheVariants as change
+use Rattle.wit_script_lines.specs.declared.request.Request.TheVariants as request
+use Rattle.wit_script.specs.Answer.{Answers, CarriesOut, IsAnswer, only_first, reply_text, with_working_state, working_state}
 use Rattle.wit_script.specs.declared.answer.Stage.{Stage}
-use Rattle.examples_resolve.specs.script.StepExamples.{ExamplesOfAnswers, ExamplesOfSteps, by_prereleases, published, semver}
+use Rattle.examples_resolve.specs.script.StepExamples.{ExamplesOfAnswers, ExamplesOfSteps, both, by_prereleases, published, semver}
 
 -- ---- the worlds of foo:main
 
@@ -65,6 +69,15 @@ graph_of_step mid new f w zero is same = ap f zero ∙ sym is ∙ sym (ap (λ (s
 pub one-step : (old : State) (command : Command) (answer : Reply) (new : State) → Run old (command ∷ []) (answer ∷ []) new → Step old command answer new
 one-step old command answer new run = subst (λ (s : State). Step old command answer s) (sym run.2) run.1
 
+-- what is answered to a change
+pub change-is : (before after : Stage) (made : Change) (text : List ℕ) → Answers before (request.Change made) text after
+    → (answer : Reply) × (new : State) × Step (working_state before) (command_of made) answer new × (after ≡ with_working_state before new) × (text ≡ reply_text (is_setting made) (working_state after).graph answer)
+change-is before after made text answer = at answer.0 answer.1 answer.2 where
+  at : (said : Option Reply) → CarriesOut before (request.Change made) said after → IsAnswer (working_state after).graph (request.Change made) said text
+      → (answer : Reply) × (new : State) × Step (working_state before) (command_of made) answer new × (after ≡ with_working_state before new) × (text ≡ reply_text (is_setting made) (working_state after).graph answer)
+  at None carried told = absurd carried
+  at (Some said) carried told = (said, carried.0, carried.1, carried.2, told)
+
 module _ (semver_merges : ExamplesOfSemverMerges) (rules : ExamplesOfRules) (causes : ExamplesOfCauses) where
   pub steps : ExamplesOfSteps
   steps = record {
@@ -104,33 +117,41 @@ module _ (semver_merges : ExamplesOfSemverMerges) (rules : ExamplesOfRules) (cau
   first_rule s = is_other_rule s.first
 
   -- the rule is set without a word
-  quiet : (answer : Reply) (new : State) → Step new_state (SetTrackRule WithPrereleases) answer new → line_unless_done new.graph answer ≡ []
-  quiet reply.Done new step = refl
-  quiet (reply.Pushed id) new step = absurd step
-  quiet (reply.Merged remap) new step = absurd step
-  quiet reply.NoWorld new step = absurd step
-  quiet (reply.Refused error) new step = absurd step
+  quiet : (g : Graph) (answer : Reply) (new : State) → Step new_state (SetTrackRule WithPrereleases) answer new → reply_text true g answer ≡ []
+  quiet g reply.Done new step = refl
+  quiet g (reply.Pushed id) new step = absurd step
+  quiet g (reply.Merged remap) new step = absurd step
+  quiet g reply.NoWorld new step = absurd step
+  quiet g (reply.Refused error) new step = absurd step
 
   pub answers : ExamplesOfAnswers
   unfolding digits
   answers = record {
     merged = (
-      published (three 1 (1 ∷ 3 ∷ 2 ∷ [])),
-      (reply.Done, one-step (published of_three) (semver (codes "w")) reply.Done (published (three 1 (1 ∷ 3 ∷ 2 ∷ []))) steps.merged, refl),
+      Some reply.Done,
+      (
+        published (three 1 (1 ∷ 3 ∷ 2 ∷ [])),
+        one-step (published of_three) (semver (codes "w")) reply.Done (published (three 1 (1 ∷ 3 ∷ 2 ∷ []))) steps.merged,
+        refl,
+      ),
       refl,
     );
     missing = (
-      published without_type,
+      Some (reply.Refused (failed (codes "type `t` is missing"))),
       (
-        reply.Refused (failed (codes "type `t` is missing")),
+        published without_type,
         one-step (published without_type) (semver (codes "w")) (reply.Refused (failed (codes "type `t` is missing"))) (published without_type) steps.missing,
         refl,
       ),
       refl,
     );
-    absent = (new_state, (reply.NoWorld, (refl, refl), refl), refl);
-    tracks = (by_prereleases new_state.graph, (reply.Done, refl, refl), refl);
-    tracks_of_second = (by_prereleases new_state.graph, (reply.Done, refl, refl), refl);
-    not_of_first = λ answer. false≢true (sym (ap first_rule answer.2));
-    not_aloud = λ answer. let none : codes "done\n" ≡ [] = answer.1.2 ∙ quiet answer.1.0 answer.0 answer.1.1 in cc;
+    absent = (Some reply.NoWorld, (new_state, (refl, refl), refl), refl);
+    tracks = (Some reply.Done, (by_prereleases new_state.graph, refl, refl), refl);
+    tracks_of_second = (Some reply.Done, (by_prereleases new_state.graph, refl, refl), refl);
+    not_of_first = λ answer.
+        let is = change-is (both new_state new_state) (both (by_prereleases new_state.graph) new_state) (change.SetTrackRule WithPrereleases) [] answer in
+        false≢true (sym (ap first_rule is.3));
+    not_aloud = λ answer.
+        let is = change-is (only_first new_state) (only_first (by_prereleases new_state.graph)) (change.SetTrackRule WithPrereleases) (codes "done\n") answer in
+        let none : codes "done\n" ≡ [] = is.4 ∙ quiet (by_prereleases new_state.graph).graph is.0 is.1 is.2 in cc;
   }

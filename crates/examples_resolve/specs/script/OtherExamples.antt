@@ -4,7 +4,7 @@ use Rattle.wit_names.specs.declared.track.TrackRule.TheVariants.{WithPrereleases
 use Rattle.wit_graph_data.specs.examples.Samples.{foo_bar}
 use Rattle.wit_script_lines.specs.declared.request.Request.TheVariants as request
 use Rattle.wit_resolve_graph.specs.State.{State, new_state}
-use Rattle.wit_script.specs.Answer.{AnswersAll, only_first}
+use Rattle.wit_script.specs.Answer.{Answers, InTurn, only_first}
 use Rattle.wit_script.specs.declared.answer.Stage.{Stage}
 use Rattle.wit_script_lines.specs.declared.request.Request.{Request}
 use Rattle.examples_resolve.specs.script.SmallGraphs.{after, first_of, foo_baz, gated, one, second_of, two}
@@ -19,7 +19,7 @@ merge_line = request.Merge
 
 -- commands may be answered so, one after another
 abbrev pub AreAnswered : Stage → List Request → List ℕ → Stage → Type 0
-AreAnswered before commands text after = AnswersAll before commands text after
+AreAnswered before commands text after = InTurn Answers before commands text after
 
 -- foo:bar, and foo:baz that goes into it
 abbrev pub bar : State

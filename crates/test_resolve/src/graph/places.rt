@@ -139,6 +139,79 @@ fn a_text_at_a_long_line_has_its_place_alone(rt: HostRuntime) {
     );
 }
 
+/// Where a position stands in a file of 120 lines, each of a letter of two bytes and two of one.
+fn place_in_lines(rt: &impl Abort, alloc: Global, position: u32) -> String {
+    let mut contents = String::new(alloc);
+    for _i in 0..120 {
+        contents.push_str("é;;\n").expect(rt, "memory");
+    }
+    let mut map = SourceMap::new(alloc);
+    map.push_str(alloc, "m.wit", contents).expect(rt, "memory");
+    map.render_location(alloc, Span::new(position, position))
+        .expect(rt, "memory")
+}
+
+/// Positions around the marks of the text, which stand at each 128th byte: the second one is in a letter.
+const PLACES: [(u32, &str); 10] = [
+    (0, "m.wit:1:1"),
+    (128, "m.wit:26:3"),
+    (255, "m.wit:52:1"),
+    (256, "m.wit:52:2"),
+    (257, "m.wit:52:2"),
+    (259, "m.wit:52:4"),
+    (260, "m.wit:53:1"),
+    (512, "m.wit:103:2"),
+    (600, "m.wit:121:1"),
+    (601, "<unknown>"),
+];
+
+#[test]
+fn places_are_told_in_many_lines(rt: HostRuntime) {
+    for &(position, place) in &PLACES {
+        assert_text(&rt, place_in_lines(&rt, rt.alloc(), position), place);
+    }
+}
+
+/// Where a position stands in the row of four files, of which the third is empty.
+fn place_in_files(rt: &impl Abort, alloc: Global, position: u32) -> String {
+    let mut map = SourceMap::new(alloc);
+    for (path, contents) in [("a", "i"), ("b", "j\nj"), ("c", ""), ("d", "k")] {
+        let contents = string(rt, alloc, contents);
+        map.push_str(alloc, path, contents).expect(rt, "memory");
+    }
+    map.render_location(alloc, Span::new(position, position))
+        .expect(rt, "memory")
+}
+
+#[test]
+fn places_are_told_in_many_files(rt: HostRuntime) {
+    let places = [
+        (1, "a:1:2"),
+        (2, "b:1:1"),
+        (5, "b:2:2"),
+        (6, "c:1:1"),
+        (7, "d:1:1"),
+        (8, "d:1:2"),
+        (9, "<unknown>"),
+    ];
+    for &(position, place) in &places {
+        assert_text(&rt, place_in_files(&rt, rt.alloc(), position), place);
+    }
+}
+
+#[test]
+fn a_location_has_its_path_line_and_column(rt: HostRuntime) {
+    let mut map = file(&rt, rt.alloc());
+    let other = file(&rt, rt.alloc());
+    map.append(rt.alloc(), other).expect(&rt, "positions");
+    let location = map.location(Span::new(40, 43)).expect(&rt, "a location");
+    assert_eq!(rt; location.path, "m.wit");
+    assert_eq!(rt; location.line, 2);
+    assert_eq!(rt; location.column, 3);
+    assert_eq!(rt; map.location(Span::new(50, 51)).is_none(), true);
+    assert_eq!(rt; map.location(Span::unknown()).is_none(), true);
+}
+
 const TRACKS: [(&str, &str, &str); 4] = [
     ("1.2.3", "1", "on 1.0.0 with .2.3"),
     ("0.2.1+b", "0.2", "on 0.2.0 with .1+b"),

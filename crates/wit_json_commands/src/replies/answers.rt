@@ -1,7 +1,8 @@
 //! Answers to commands.
 ghost use Rattle.std.specs.Prelude.{◌≡◌, ◌++◌, OnOk};
 ghost use Rattle.json.specs.Tree.{json_tokens};
-ghost use Rattle.wit_json_commands.specs.Answers.{json_of_answer, json_of_merge, json_of_response};
+ghost use Rattle.wit_json.specs.steps.Members.{Adds};
+ghost use Rattle.wit_json_commands.specs.Answers.{json_of_answer, json_of_changed, json_of_merge, json_of_response, unmatched_member};
 ghost use Rattle.wit_json_commands.specs.RefusalJson.{json_of_refused};
 
 use super::core_names::CoreNames;
@@ -33,11 +34,18 @@ pub struct Refusal {
 pub enum Answer {
     /// It is carried out.
     Done,
+    /// It is carried out on this world, no import of which had the keys that are told.
+    ChangedWorld {
+        world: WorldId,
+        unmatched: Items<Text>,
+    },
     /// The id of the main group's main package.
     Pushed(PackageId),
     /// Where the things of the other graph stand now.
     Merged(Remap),
-    /// There is no world of that name in a package of that name.
+    /// There is no package of that name.
+    NoPackage,
+    /// The package has no world of that name.
     NoWorld,
     /// A package that was to be added hasn't its shape, and nothing is added.
     NotShaped(Unshaped),
@@ -85,12 +93,18 @@ impl WriteJson for Answer {
     fn write_json(&self, out: &mut JsonText) -> Result<(), AllocError> {
         match self {
             Answer::Done => out.string("done"),
+            Answer::ChangedWorld { world, unmatched } => {
+                out.begin_tagged("done")?;
+                write_changed(out, *world, unmatched)?;
+                out.end_object()
+            }
             Answer::Pushed(id) => out.tagged("pushed", id),
             Answer::Merged(remap) => {
                 out.begin_tagged("merged")?;
                 write_remap(out, remap)?;
                 out.end_object()
             }
+            Answer::NoPackage => out.string("no-package"),
             Answer::NoWorld => out.string("no-world"),
             Answer::NotShaped(unshaped) => out.tagged("not-shaped", unshaped),
             Answer::NotFound => out.string("not-found"),
@@ -102,6 +116,31 @@ impl WriteJson for Answer {
             Answer::Text(text) => out.tagged("text", text),
             Answer::CoreNames(names) => out.tagged("core-names", names),
         }
+    }
+}
+
+/// Writes a world that a command changed, and the keys that no import of it had.
+fn write_changed(
+    out: &mut JsonText,
+    world: WorldId,
+    unmatched: &Items<Text>,
+) -> Result<(), AllocError>
+    ensures { OnOk result (out.new ≡ out.old ++ json_tokens (json_of_changed world unmatched.now)) }
+{
+    out.begin_object()?;
+    out.member("world", &world)?;
+    write_unmatched(out, unmatched)?;
+    out.end_object()
+}
+
+/// Writes the keys that no import had, where there are some.
+fn write_unmatched(out: &mut JsonText, unmatched: &Items<Text>) -> Result<(), AllocError>
+    ensures { OnOk result (Adds out.old out.new (unmatched_member unmatched.now)) }
+{
+    if unmatched.is_empty() {
+        Ok(())
+    } else {
+        out.member("unmatched", unmatched)
     }
 }
 

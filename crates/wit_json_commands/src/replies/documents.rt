@@ -2,12 +2,13 @@
 ghost use Rattle.std.specs.Prelude.{◌≡◌, ◌++◌, IfOk, OnOk, codes, string_bytes};
 ghost use Rattle.json.specs.Tree.{json_tokens};
 ghost use Rattle.wit_json.specs.Graph.{compact};
-ghost use Rattle.wit_json.specs.Values.{json_of_number, json_of_text, member};
+ghost use Rattle.wit_json.specs.Values.{json_of_text, member};
 ghost use Rattle.wit_json.specs.steps.Members.{Adds};
 ghost use Rattle.wit_json_reading.specs.Messages.{expected_text};
 ghost use Rattle.wit_json_commands.specs.Output.{json_of_fault, json_of_output, json_of_path, json_of_place, json_of_step};
 
 use super::answers::Response;
+use super::file_places::write_number;
 use std::alloc::{AllocError, Global};
 use wit_data::{Items, SourceMap, TrackRule};
 use wit_graph_data::{Features, Graph};
@@ -66,14 +67,6 @@ fn write_path_member(out: &mut JsonText, path: &Items<Step>) -> Result<(), Alloc
     write_path(out, path.as_slice())
 }
 
-/// Writes the member that has the byte at which the value of a fault begins.
-fn write_offset(out: &mut JsonText, offset: usize) -> Result<(), AllocError>
-    ensures { OnOk result (Adds out.old out.new (member (codes "offset") (json_of_number offset))) }
-{
-    out.key("offset")?;
-    out.number(offset as u64)
-}
-
 /// Writes the member that has what was expected.
 fn write_expected(out: &mut JsonText, expected: Expected) -> Result<(), AllocError>
     ensures { OnOk result (Adds out.old out.new
@@ -91,7 +84,7 @@ fn write_place(out: &mut JsonText, fault: &Fault, offset: usize) -> Result<(), A
 {
     out.begin_object()?;
     write_path_member(out, &fault.path)?;
-    write_offset(out, offset)?;
+    write_number(out, "offset", offset)?;
     write_expected(out, fault.expected)?;
     out.end_object()
 }

@@ -1,6 +1,7 @@
 //! Places in files by path, line and column, as data.
-ghost use Rattle.std.specs.Prelude.{◌≡◌, ◌<◌, ◌++◌, ◌^◌, ℕ, List, None, IfOk, IsSomeAnd, codes, decimal};
-ghost use Rattle.wit_sources.specs.Locations.{location_text};
+ghost use Rattle.std.specs.Prelude.{◌≡◌, IfOk, OnOk};
+ghost use Rattle.wit_json.specs.Values.{json_of_number, member};
+ghost use Rattle.wit_json.specs.steps.Members.{Adds};
 ghost use Rattle.wit_json_commands.specs.FilePlaces.{file_place};
 ghost use Rattle.wit_json_commands.specs.RefusalJson.{json_of_file_place};
 
@@ -12,8 +13,8 @@ use wit_json::{JsonText, WriteJson};
 #[derive(Drop)]
 pub struct FilePlace {
     pub path: Text,
-    pub line: u32,
-    pub column: u32,
+    pub line: usize,
+    pub column: usize,
 }
 
 /// Where a span begins; None where it is unknown or in no file. The only error is want of memory.
@@ -24,40 +25,22 @@ pub fn file_place(
 ) -> Result<Option<FilePlace>, AllocError>
     ensures { IfOk result (λ place. place ≡ file_place files.now.files span) }
 {
-    // Files end before position 2^32, so no line and no column is past it.
-    let _end = files.end();
-    let location = files.render_location(alloc, span)?;
-    match place_parts(&location) {
-        Some((path, line, column)) => {
-            let path = Text::try_from_str(alloc, path)?;
+    match files.location(span) {
+        Some(location) => {
+            let path = Text::try_from_str(alloc, location.path)?;
+            let (line, column) = (location.line, location.column);
             Ok(Some(FilePlace { path, line, column }))
         }
         None => Ok(None),
     }
 }
 
-/// The parts of a place that is told as `path:line:column`; None of `<unknown>`.
-fn place_parts(text: &str) -> Option<(&str, u32, u32)>
-    ensures parts { (path : List ℕ) (line column : ℕ) → line < 2 ^ 32 → column < 2 ^ 32
-        → text.now ≡ location_text path line column
-        → IsSomeAnd result (λ p. (p.0.now ≡ path) × (p.1 ≡ line) × (p.2 ≡ column)) }
-    ensures none { text.now ≡ codes "<unknown>" → result ≡ None }
+/// Writes a member that has a number.
+pub fn write_number(out: &mut JsonText, name: &str, number: usize) -> Result<(), AllocError>
+    ensures { OnOk result (Adds out.old out.new (member name.now (json_of_number number))) }
 {
-    let (rest, column) = split_number(text)?;
-    let (path, line) = split_number(rest)?;
-    Some((path, line, column))
-}
-
-/// What stands before the last colon of a text, and the number behind it.
-fn split_number(text: &str) -> Option<(&str, u32)>
-    ensures number { (front : List ℕ) (n : ℕ) → n < 2 ^ 32
-        → text.now ≡ front ++ (codes ":" ++ decimal n)
-        → IsSomeAnd result (λ p. (p.0.now ≡ front) × (p.1 ≡ n)) }
-    ensures none { text.now ≡ codes "<unknown>" → result ≡ None }
-{
-    let (front, digits) = text.rsplit_once(':')?;
-    let number = digits.parse::<u32>().ok()?;
-    Some((front, number))
+    out.key(name)?;
+    out.number(number as u64)
 }
 
 impl WriteJson for FilePlace {
@@ -66,8 +49,8 @@ impl WriteJson for FilePlace {
     fn write_json(&self, out: &mut JsonText) -> Result<(), AllocError> {
         out.begin_object()?;
         out.member("path", &self.path)?;
-        out.member("line", &self.line)?;
-        out.member("column", &self.column)?;
+        write_number(out, "line", self.line)?;
+        write_number(out, "column", self.column)?;
         out.end_object()
     }
 }

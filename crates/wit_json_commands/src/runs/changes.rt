@@ -4,6 +4,7 @@ ghost use Rattle.wit_json_commands.specs.Runs.{CarriesOut, CarriesOutCommand, An
 ghost use Rattle.wit_resolve_graph.specs.Step.{IsCommandShaped};
 
 use super::shapes::find_unshaped;
+use super::targets::Target;
 use crate::replies::{Answer, refused};
 use std::alloc::Global;
 use wit_commands::Change;
@@ -34,26 +35,29 @@ pub fn answer_command(
     ensures { IfOk result
         (λ answer. CarriesOutCommand asked.now resolve.old command answer resolve.new) }
 {
+    let target = Target::of(alloc, resolve.graph(), &command)?;
     let brought = Asked::of(alloc, resolve, &command)?;
     let reply = carry_out(alloc, resolve, command);
-    answer_of(alloc, resolve, asked, &brought, reply)
+    answer_of(alloc, resolve, asked, target, &brought, reply)
 }
 
-/// The answer that a reply is to what was asked, which in words is `asked`.
+/// The answer that a reply is to what was asked, which in words is `asked` and whose names led to the target.
 fn answer_of(
     alloc: Global,
     resolve: &Resolve,
     asked: &str,
+    target: Target,
     brought: &Asked,
     reply: Reply,
 ) -> ResolveResult<Answer>
-    ensures { IfOk result (λ answer. AnswersReply resolve.now asked.now brought.now reply answer) }
+    ensures { IfOk result
+        (λ answer. AnswersReply resolve.now asked.now target brought.now reply answer) }
 {
     match reply {
-        Reply::Done => Ok(Answer::Done),
+        Reply::Done => Ok(target.done()),
         Reply::Pushed(id) => Ok(Answer::Pushed(id)),
         Reply::Merged(remap) => Ok(Answer::Merged(remap)),
-        Reply::NoWorld => Ok(Answer::NoWorld),
+        Reply::NoWorld => Ok(target.missing()),
         Reply::Refused(error) => {
             let (graph, files) = (resolve.graph(), resolve.source_map());
             let way = way_of(alloc, resolve, brought, error.kind())?;

@@ -4,14 +4,15 @@ ghost use Rattle.std.specs.Str.{IsUtf8};
 ghost use Rattle.std.specs.Io.KnownBytes.{Appends};
 ghost use Rattle.wit_streams.specs.Watched.{AppendsBeginning};
 ghost use Rattle.wit_json.specs.Graph.{compact};
-ghost use Rattle.wit_json_commands.specs.Output.{json_of_fault};
+ghost use Rattle.wit_json_commands.specs.Output.{json_of_fault, json_of_output};
 ghost use Rattle.wit_json_reading.specs.Reading.{Reads};
 ghost use Rattle.wit_json_commands.specs.Documents.{ComesOut, ComesOutOfBytes, Understands, invalid_fault};
 ghost use Rattle.wit_json_commands.specs.steps.Outcomes.{Begins, TellsFaultOf, WritesOutput};
 
+use super::long_answers::without_long_answers;
 use super::orders::responses_to;
 use crate::commands::{Document, Order};
-use crate::replies::{fault_to_json, output_to_json};
+use crate::replies::{Response, fault_to_json, output_to_json};
 use std::alloc::{AllocError, Global};
 use std::io::{Read, Write};
 use wit_json_graphs::ResolveParts;
@@ -85,16 +86,37 @@ pub fn fault_text(alloc: Global, text: &str, fault: &Fault) -> Result<String, Al
     fault_to_json(alloc, fault, offset)
 }
 
-/// What comes out of commands that begin with a graph.
+/// What comes out of commands that begin with a graph. Where there is no memory to write it with its long answers, these are
+/// refused.
 fn output(alloc: Global, mut resolve: Resolve, commands: Items<Order>) -> Result<String, AllocError>
     ensures { IfOk result (λ out. WritesOutput resolve commands (string_bytes out)) }
 {
     let Ok(replies) = responses_to(alloc, &mut resolve, commands) else {
         return Err(AllocError);
     };
+    match write_output(alloc, &replies, &resolve) {
+        Ok(out) => Ok(out),
+        Err(_) => {
+            let (graph, files) = (resolve.graph(), resolve.source_map());
+            let left = without_long_answers(alloc, graph, files, replies)?;
+            write_output(alloc, &left, &resolve)
+        }
+    }
+}
+
+/// Replies and the graph with what stands beside it, as they come out.
+fn write_output(
+    alloc: Global,
+    replies: &Items<Response>,
+    resolve: &Resolve,
+) -> Result<String, AllocError>
+    ensures { IfOk result (λ out.
+        string_bytes out ≡ compact (json_of_output replies.now resolve.now.graph
+        resolve.now.features resolve.now.track_rule resolve.now.source_map)) }
+{
     let (graph, features) = (resolve.graph(), resolve.features());
     let (rule, files) = (resolve.track_rule(), resolve.source_map());
-    output_to_json(alloc, &replies, graph, features, rule, files)
+    output_to_json(alloc, replies, graph, features, rule, files)
 }
 
 /// Reads a document to the end of the reader, carries it out as `respond` does, and writes the one that comes out: of one

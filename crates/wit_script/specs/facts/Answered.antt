@@ -1,21 +1,19 @@
--- Answers one after another.
+-- Texts one after another.
 use Rattle.std.proofs.Common.{ℕ, List, [], ◌∷◌, ◌++◌, refl, sym, ap, ◌∙◌, subst, append_assoc}
 use Rattle.std.proofs.lemmas.List.{append-nil}
-use Rattle.wit_script_lines.specs.declared.request.Request.{Request}
-use Rattle.wit_script.specs.Answer.{Answers, AnswersAll}
-use Rattle.wit_script.specs.declared.answer.Stage.{Stage}
+use Rattle.wit_script.specs.Answer.{InTurn}
 
--- one more answer
-pub AnswersAll-more : (before between after : Stage) (commands : List Request) (command : Request) (text more : List ℕ)
-    → AnswersAll before commands text between → Answers between command more after
-    → AnswersAll before (commands ++ command ∷ []) (text ++ more) after
-AnswersAll-more before between after [] command text more all one =
-    (after, more, [], subst (λ (s : Stage). Answers s command more after) all.1 one, (refl, refl), ap (λ (t : List ℕ). t ++ more) all.0 ∙ sym (append-nil more))
-AnswersAll-more before between after (first ∷ commands) command text more all one = (
-  all.0,
-  all.1,
-  all.2 ++ more,
-  all.3,
-  AnswersAll-more all.0 between after commands command all.2 more all.4 one,
-  ap (λ (t : List ℕ). t ++ more) all.5 ∙ append_assoc all.1 all.2 more,
-)
+module _ {S X : Type 0} (Tells : S → X → List ℕ → S → Type 0) where
+  -- one more text
+  pub InTurn-more : (before between after : S) (xs : List X) (x : X) (text more : List ℕ) → InTurn Tells before xs text between → Tells between x more after
+      → InTurn Tells before (xs ++ x ∷ []) (text ++ more) after
+  InTurn-more before between after [] x text more all one =
+      (after, more, [], subst (λ (s : S). Tells s x more after) all.1 one, (refl, refl), ap (λ (t : List ℕ). t ++ more) all.0 ∙ sym (append-nil more))
+  InTurn-more before between after (first ∷ xs) x text more all one = (
+    all.0,
+    all.1,
+    all.2 ++ more,
+    all.3,
+    InTurn-more all.0 between after xs x all.2 more all.4 one,
+    ap (λ (t : List ℕ). t ++ more) all.5 ∙ append_assoc all.1 all.2 more,
+  )

@@ -9,7 +9,8 @@ use Rattle.wit_script_lines.specs.PackageLine.{each_of}
 use Rattle.wit_script_lines.specs.declared.request.Request.{Request}
 use Rattle.wit_script_lines.specs.declared.statement.Statement.{Statement}
 use Rattle.wit_script_lines.specs.declared.statement.Statement.TheVariants as says
-use Rattle.wit_script.specs.Script.{mentions_ahead, after_statement_in, with_asked, with_begun, with_current, with_groups, with_statement}
+use Rattle.wit_script.specs.Script.{mentions_ahead, after_statement_in, with_groups}
+use Rattle.wit_script.specs.steps.Parts.{with_asked, with_begun, with_current, with_statement}
 use Rattle.wit_script.specs.Ready.{other_after}
 use Rattle.wit_script.specs.declared.reader.Reading.{Reading}
 use Rattle.wit_commands.specs.declared.change.Change.TheVariants.{PushGroups}

@@ -4,13 +4,13 @@ use Rattle.std.proofs.Common.{◌≡◌, ◌∙◌, ℕ, Bool, false, List, [], 
 use Rattle.std.specs.Option.{option_and_then}
 use Rattle.wit_script_lines.specs.Line.{lines_of}
 use Rattle.wit_script_lines.specs.Statement.{statement_of}
-use Rattle.wit_commands.specs.declared.change.Change.{Change}
 use Rattle.wit_script_lines.specs.declared.request.Request.{Request}
 use Rattle.wit_script_lines.specs.declared.request.Request.TheVariants as request
 use Rattle.wit_resolve_graph.specs.State.{State}
+use Rattle.wit_resolve_graph.specs.declared.command.Reply.{Reply}
 use Rattle.wit_script.specs.facts.Scripts.{and_then_both}
 use Rattle.wit_script.specs.facts.Stepped.{Makes, adds, said-makes, stays}
-use Rattle.wit_script.specs.Answer.{Answers, AnswersChange, AnswersMerge, AnswersOther, with_working_state_of}
+use Rattle.wit_script.specs.Answer.{CarriesOut, with_working_state}
 use Rattle.wit_script.specs.Ready.{CanAllBeAsked, other_after, other_after_all}
 use Rattle.wit_script.specs.steps.Ready.{CanBeAsked}
 use Rattle.wit_script.specs.Script.{IsUnderstood, after_line, after_lines, new_reading}
@@ -50,7 +50,7 @@ understood-come text commands understood =
     let told : IsTold understood.reading = told-after new_reading (lines_of text) understood.reading understood.read refl in
     ap (λ (l : List Request). is_some (other_after_all l false)) (sym understood.asked) ∙ ap is_some told
 
--- ---- commands that are answered
+-- ---- commands that are carried out
 
 -- one can be asked, and then those after it
 pub first-comes : (command : Request) (commands : List Request) (other : Bool) → CanAllBeAsked (command ∷ commands) other → CanBeAsked command other
@@ -59,29 +59,23 @@ first-comes command commands other come = of (other_after command other) come wh
   of None come = cc
   of (Some next) come = refl
 
--- a change of the graph that is open leaves both graphs there
-changed-waits : (before after : Stage) (change : Change) (text : List ℕ) → AnswersChange before change text after → is_some before.second ≡ is_some after.second
-changed-waits before after change text answer = sym (ap (λ (s : Stage). is_some s.second) answer.2 ∙ kept before.first before.second answer.0) where
-  kept : (first : State) (second : Option State) (new : State) → is_some (with_working_state_of first second new).second ≡ is_some second
+-- a command tells of the second graph whether it is there after it
+carried-waits : (before after : Stage) (command : Request) (reply : Option Reply) → CarriesOut before command reply after → other_after command (is_some before.second) ≡ Some (is_some after.second)
+carried-waits before after (request.Change change) (Some reply) carried = ap Some (sym (ap (λ (s : Stage). is_some s.second) carried.2 ∙ kept before.first before.second carried.0)) where
+  kept : (first : State) (second : Option State) (new : State) → is_some (with_working_state (record { first = first; second = second }) new).second ≡ is_some second
   kept first None new = refl
   kept first (Some second) new = refl
+carried-waits before after (request.Change change) None carried = absurd carried
+carried-waits before after request.Other (Some reply) carried = absurd carried
+carried-waits before after request.Other None carried = ap (λ (o : Option State). other_after request.Other (is_some o)) carried.0 ∙ ap (λ (s : Stage). Some (is_some s.second)) (sym carried.1)
+carried-waits before after request.Merge (Some reply) carried = ap (λ (o : Option State). other_after request.Merge (is_some o)) carried.2 ∙ ap (λ (s : Stage). Some (is_some s.second)) (sym carried.4)
+carried-waits before after request.Merge None carried = absurd carried
+carried-waits before after (request.Print owner world) (Some reply) carried = absurd carried
+carried-waits before after (request.Print owner world) None same = ap (λ (s : Stage). Some (is_some s.second)) (sym same)
+carried-waits before after (request.Select owner said) (Some reply) carried = absurd carried
+carried-waits before after (request.Select owner said) None same = ap (λ (s : Stage). Some (is_some s.second)) (sym same)
 
-opened-waits : (before after : Stage) (second : Option State) (text : List ℕ) → AnswersOther before second text after → other_after request.Other (is_some second) ≡ Some (is_some after.second)
-opened-waits before after None text opened = ap (λ (s : Stage). Some (is_some s.second)) (sym opened.1)
-opened-waits before after (Some second) text opened = absurd opened
-
-merged-waits : (before after : Stage) (second : Option State) (text : List ℕ) → AnswersMerge before second text after → other_after request.Merge (is_some second) ≡ Some (is_some after.second)
-merged-waits before after None text merged = absurd merged
-merged-waits before after (Some second) text merged = ap (λ (s : Stage). Some (is_some s.second)) (sym merged.2)
-
-answers-wait : (before after : Stage) (command : Request) (text : List ℕ) → Answers before command text after → other_after command (is_some before.second) ≡ Some (is_some after.second)
-answers-wait before after (request.Change change) text changed = ap Some (changed-waits before after change text changed)
-answers-wait before after request.Other text opened = opened-waits before after before.second text opened
-answers-wait before after request.Merge text merged = merged-waits before after before.second text merged
-answers-wait before after (request.Print owner world) text same = ap (λ (s : Stage). Some (is_some s.second)) (sym same.0)
-answers-wait before after (request.Select owner said) text same = ap (λ (s : Stage). Some (is_some s.second)) (sym same.0)
-
-pub others-come : (before after : Stage) (command : Request) (commands : List Request) (text : List ℕ) → Answers before command text after → CanAllBeAsked (command ∷ commands) (is_some before.second)
+pub others-come : (before after : Stage) (command : Request) (commands : List Request) (reply : Option Reply) → CarriesOut before command reply after → CanAllBeAsked (command ∷ commands) (is_some before.second)
     → CanAllBeAsked commands (is_some after.second)
-others-come before after command commands text answers come =
-    subst (λ (o : Option Bool). IsTrue (is_some (option_and_then (other_after_all commands) o))) (answers-wait before after command text answers) come
+others-come before after command commands reply carried come =
+    subst (λ (o : Option Bool). IsTrue (is_some (option_and_then (other_after_all commands) o))) (carried-waits before after command reply carried) come

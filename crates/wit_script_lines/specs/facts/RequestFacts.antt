@@ -6,7 +6,7 @@ use Rattle.wit_names.specs.declared.track.TrackRule.{TrackRule}
 use Rattle.wit_data.specs.declared.stability.Stability.{Stability}
 use Rattle.wit_script_lines.specs.Line.{is_comment, tokens_of}
 use Rattle.wit_script_lines.specs.PackageLine.{gate_of_line, package_line_by, ungated_of}
-use Rattle.wit_script_lines.specs.Request.{alone_of, exportize_of, feature_of, importize_of, importize_to, is_request, keys_of, new_name_of, print_of, request_by, select_of, select_with, semver_of, track_rule_of, tracks_of, world_in, world_of}
+use Rattle.wit_script_lines.specs.Request.{alone_of, exportize_of, feature_of, importize_of, importize_to, is_request, keys_of, new_name_of, request_by, select_of, select_with, track_rule_of, tracks_of, world_in, world_of}
 use Rattle.wit_script_lines.specs.Statement.{gated_line_by, package_statement_of, push_statement_of, statement_by, statement_of, statement_of_tokens}
 use Rattle.wit_script_lines.specs.Token.{package_name_of, part_of}
 use Rattle.wit_script_lines.specs.declared.package_line.PackageLine.{PackageLine}
@@ -57,12 +57,6 @@ module _ (asked : Request) where
       made (λ (named : PackageName × List ℕ). request.Change (change.Exportize named.0 named.1 (new_name_of out) (keys_of keys))) (world_in name world)
       (λ named. tt) is
 
-  semver : (arguments : List (List ℕ)) → semver_of arguments ≡ Some asked → BringsNone asked
-  semver arguments is = made (λ (named : PackageName × List ℕ). request.Change (change.Semver named.0 named.1)) (world_of arguments) (λ named. tt) is
-
-  print : (arguments : List (List ℕ)) → print_of arguments ≡ Some asked → BringsNone asked
-  print arguments is = made (λ (named : PackageName × List ℕ). request.Print named.0 named.1) (world_of arguments) (λ named. tt) is
-
   select-with : (name : List ℕ) (said : Option (List ℕ)) → select_with name said ≡ Some asked → BringsNone asked
   select-with name said is = made (λ (owner : PackageName). request.Select owner said) (package_name_of name) (λ owner. tt) is
 
@@ -87,8 +81,8 @@ module _ (asked : Request) where
       (either (bytes_eq said (codes "merge")) _ _ (alone request.Merge arguments tt)
       (either (bytes_eq said (codes "importize")) _ _ (importize arguments)
       (either (bytes_eq said (codes "exportize")) _ _ (exportize arguments)
-      (either (bytes_eq said (codes "semver")) _ _ (semver arguments)
-      (either (bytes_eq said (codes "print")) _ _ (print arguments)
+      (either (bytes_eq said (codes "semver")) _ _ (made (λ (named : PackageName × List ℕ). request.Change (change.Semver named.0 named.1)) (world_of arguments) (λ named. tt))
+      (either (bytes_eq said (codes "print")) _ _ (made (λ (named : PackageName × List ℕ). request.Print named.0 named.1) (world_of arguments) (λ named. tt))
       (either (bytes_eq said (codes "select")) _ None (select arguments) (λ is. cc))))))))))
 
   -- ---- lines

@@ -1,5 +1,5 @@
 -- What the steps of semver merging hand on: which interface replaces which, and what types name then.
-use Rattle.std.specs.Prelude.{◌≡◌, ℕ, Bool, false, true, List, get_or, length, map, nat_eq, slice_set, Option, None, Some, Contains, slice_get, if◌then◌else◌, option_map}
+use Rattle.std.specs.Prelude.{◌≡◌, ℕ, Bool, false, true, List, map, nat_eq, slice_set, Option, None, Some, Contains, slice_get, if◌then◌else◌, option_map}
 use Rattle.std.specs.List.{enumerate_from, list_any}
 use Rattle.std.specs.Map.{lookup}
 use Rattle.std.specs.Option.{option_map_or}
@@ -33,10 +33,9 @@ key_at rule g i = option_map (key_of rule) (versioned g i)
 abbrev pub replacement : SemverMerge → ℕ → Option ℕ
 replacement u i = if is_replaced u i then Some (newest u i) else None
 
--- a list tells of each interface what replaces it
-abbrev pub AreReplacements : SemverMerge → List (Option ℕ) → Type 0
-AreReplacements u found =
-    (length found ≡ length u.graph.interfaces) × ((i : ℕ) → get_or found i None ≡ replacement u i)
+-- a table tells what replaces which interface
+abbrev pub AreReplacements : SemverMerge → List (ℕ × ℕ) → Type 0
+AreReplacements u found = (i : ℕ) → lookup (nat_eq i) found ≡ replacement u i
 
 -- ---- the greatest version on each track
 
@@ -61,13 +60,12 @@ pub record IsNewestTable (rule : TrackRule) (g : Graph) (ids : List ℕ)
   pub into : (i : ℕ) (k : TrackKey) → Contains ids i → key_at rule g i ≡ Some k
       → (j : ℕ) × (lookup (same_track k) table ≡ Some j) × (is_smaller g j i ≡ false)
 
--- ---- values at places
+-- ---- what ids lead to
 
--- of so many places those among some have what f gives, and the others nothing
-abbrev pub IsFilled : (ℕ → Option ℕ) → List ℕ → ℕ → List (Option ℕ) → Type 0
-IsFilled f ids count found =
-    (length found ≡ count)
-    × ((i : ℕ) → get_or found i None ≡ (if list_any (nat_eq i) ids then f i else None))
+-- a table tells what f gives of some ids, and nothing of others
+abbrev pub IsFilled : (ℕ → Option ℕ) → List ℕ → List (ℕ × ℕ) → Type 0
+IsFilled f ids found =
+    (i : ℕ) → lookup (nat_eq i) found ≡ (if list_any (nat_eq i) ids then f i else None)
 
 -- ---- a world whose imports are to be merged
 
@@ -75,7 +73,7 @@ IsFilled f ids count found =
 abbrev pub semver_merge_of : SemverMergePlan → SemverMerge
 semver_merge_of a = semver_merge a.rule a.graph.now a.world.now
 
--- it tells of each interface what replaces it
+-- it tells what replaces which interface
 abbrev pub IsSemverMergeReady : SemverMergePlan → Type 0
 IsSemverMergeReady a = AreReplacements (semver_merge_of a) a.replaced
 
@@ -86,9 +84,10 @@ LackTypes u ids message = (t : ℕ) × Contains ids t × LacksType u t message
 -- ---- the graph that is made
 
 -- types that name what they are told to
-abbrev pub with_targets : List TypeDef → List (Option ℕ) → List TypeDef
+abbrev pub with_targets : List TypeDef → List (ℕ × ℕ) → List TypeDef
 with_targets types targets =
-    map (λ (e : ℕ × TypeDef). retargeted e.1 (get_or targets e.0 None)) (enumerate_from 0 types)
+    map (λ (e : ℕ × TypeDef). retargeted e.1 (lookup (nat_eq e.0) targets))
+    (enumerate_from 0 types)
 
 -- the graph, of which world w lists these imports
 abbrev pub with_imports : Graph → ℕ → List Entry → Graph
@@ -100,7 +99,7 @@ with_imports g w imports =
     }
 
 -- and such types
-abbrev pub with_lists : Graph → ℕ → List Entry → List (Option ℕ) → Graph
+abbrev pub with_lists : Graph → ℕ → List Entry → List (ℕ × ℕ) → Graph
 with_lists g w imports targets =
     record (with_imports g w imports) { types = with_targets g.types targets }
 
@@ -108,17 +107,16 @@ with_lists g w imports targets =
 pub record HasNewEntries (u : SemverMerge) (entries : NewEntries) : Type 0 where
   pub imports_are : entries.imports ≡ kept_imports u
   pub types_are : entries.types ≡ types_of_new_entries u
-  pub targets_are : IsFilled (newest_type u) (types_of_new_entries u) (length u.graph.types)
-      entries.targets
+  pub targets_are : IsFilled (newest_type u) (types_of_new_entries u) entries.targets
 
 -- nothing of what reads the graph as it was holds against merging the imports of world w, and this is what
 -- it lists then and what types name then
 pub record AreNewEntries (rule : TrackRule) (g : Graph) (w : ℕ) (imports : List Entry)
-    (targets : List (Option ℕ)) : Type 0 where
+    (targets : List (ℕ × ℕ)) : Type 0 where
   pub world : World
   pub there : slice_get g.worlds w ≡ Some world
   pub complete : IsComplete (semver_merge rule g world)
   pub agree : Agrees (semver_merge rule g world)
   pub imports_are : imports ≡ kept_imports (semver_merge rule g world)
   pub targets_are : IsFilled (newest_type (semver_merge rule g world))
-      (types_of_new_entries (semver_merge rule g world)) (length g.types) targets
+      (types_of_new_entries (semver_merge rule g world)) targets

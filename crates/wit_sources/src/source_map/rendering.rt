@@ -1,19 +1,28 @@
 //! Spans of a source map as they are told, and the text that shows one.
-ghost use Rattle.std.specs.Prelude.{◌≡◌, Some, IfOk, IfSome, string_bytes};
+ghost use Rattle.std.specs.Prelude.{◌≡◌, Some, IfOk, IfSome, find, option_and_then, string_bytes};
 ghost use Rattle.std.specs.Option.{option_copied, option_map};
 ghost use Rattle.wit_sources.specs.Lines.{column, line_number};
-ghost use Rattle.wit_sources.specs.Locations.{file_at, has_position, highlight_text, highlight_text_in, location_of, location_text, offset_in, shown_in, shown_span};
-ghost use Rattle.wit_sources.specs.steps.Locations.{IsIn};
+ghost use Rattle.wit_sources.specs.Locations.{file_at, has_position, highlight_text, highlight_text_in, location_of, location_text, offset_in, location_data, shown_in, shown_span};
+ghost use Rattle.wit_sources.specs.steps.Locations.{IsIn, if_it_has};
 ghost use Rattle.wit_sources.specs.Span.{start_of};
 
 use super::{SourceFile, SourceMap};
-use crate::lines::{column, len_in_line, line_at, line_number, offset_in_line};
+use crate::lines::{column, len_in_line, line_at, offset_in_line};
 use crate::shown::{LONGEST_LINE, marked_line};
 use crate::span::Span;
 use std::alloc::{AllocError, Global};
 use std::fmt;
 
 impl SourceMap {
+    /// Where a span begins. None where the span is unknown or in no file.
+    pub fn location(&self, span: Span) -> Option<Location<'_>>
+        ensures { option_map (λ l. (l.path.now, l.line, l.column)) result
+            ≡ location_data self.now.files span }
+    {
+        let file = self.file_at(span)?;
+        Some(file.location(span))
+    }
+
     /// Where a span begins: `path:line:column`, both numbers from 1, or `<unknown>` where the span is unknown or in no
     /// file. Lines end at line feeds, columns count characters. The only error is want of memory.
     ///
@@ -71,7 +80,22 @@ impl SourceMap {
             return None;
         }
         let position = span.start();
-        self.files.iter().find(|file| file.has_position(position))
+        let file = self.last_file_up_to(position)?;
+        if file.has_position(position) {
+            Some(file)
+        } else {
+            None
+        }
+    }
+
+    /// The last file that begins at a position or before it: none but it may have the position.
+    fn last_file_up_to(&self, position: u32) -> Option<&SourceFile>
+        ensures { find (has_position position) self.now.files
+            ≡ option_and_then (if_it_has position) (option_copied result) }
+    {
+        let files = self.files.as_slice();
+        let count = files.partition_point(|file| file.start <= position);
+        files[..count].last()
     }
 }
 
@@ -95,12 +119,11 @@ impl SourceFile {
         ensures column { result.column
             ≡ column self.now.contents (offset_in self.now (start_of span)) }
     {
-        let contents = self.contents.as_str();
         let offset = (span.start() - self.start) as usize;
         Location {
             path: self.path.as_str(),
-            line: line_number(contents, offset),
-            column: column(contents, offset),
+            line: self.contents.line_number(offset),
+            column: column(self.contents.as_str(), offset),
         }
     }
 

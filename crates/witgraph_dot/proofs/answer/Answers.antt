@@ -1,7 +1,11 @@
 use Rattle.std.proofs.Common.{string_bytes}
+use Rattle.wit_script.specs.facts.Waiting.{understood-come}
 use Rattle.wit_script_lines.specs.Line.{lines_of}
 use Rattle.witgraph_dot.proofs.Viewed.{drawn-by}
 use Rattle.witgraph_dot.proofs.answer.Goals as goal
+
+pub after-requires : goal.after-requires
+after-requires c = understood-come c.args.script.now c.in-Ok.commands c.in-Ok.ensures.ok
 
 pub returns-in-Ok : goal.returns-in-Ok
 returns-in-Ok c =

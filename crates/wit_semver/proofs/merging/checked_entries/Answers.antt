@@ -1,4 +1,4 @@
-use Rattle.std.proofs.Common.{◌≡◌, ◌∙◌, ◌⊎◌, ◌<◌, inl, inr, ℕ, List, None, Some, Contains, length, slice_get, sym, ap, subst}
+use Rattle.std.proofs.Common.{◌≡◌, ◌∙◌, ◌⊎◌, inl, inr, ℕ, List, None, Some, slice_get, sym, ap, subst}
 use Rattle.wit_names.specs.declared.track.TrackRule.{TrackRule}
 use Rattle.wit_data.specs.declared.world.World.{World}
 use Rattle.wit_graph_data.specs.facts.ResultFacts.{residual_error}
@@ -9,7 +9,6 @@ use Rattle.wit_graph_data.specs.declared.error_kind.ResolveErrorKind.TheVariants
 use Rattle.wit_semver.specs.SemverMerged.{types_of_new_entries, SemverMerge, Disagrees, IsSemverMergeCause, SemverMergeCause, functions_disagree_25, type_missing_25, semver_merge}
 use Rattle.wit_semver.specs.declared.merging.NewEntries.{NewEntries}
 use Rattle.wit_semver.specs.steps.Replacing.{HasNewEntries, LackTypes, semver_merge_of}
-use Rattle.wit_semver.proofs.NewEntries.{following_within, imports_within}
 use Rattle.wit_semver.proofs.merging.checked_entries.Goals as goal
 
 module _ (rule : TrackRule) (g : Graph) (w : ℕ) (world : World) (there : slice_get g.worlds w ≡ Some world) (v : SemverMerge) (of : v ≡ semver_merge rule g world) where
@@ -36,10 +35,6 @@ module _ (rule : TrackRule) (g : Graph) (w : ℕ) (world : World) (there : slice
     missing e (inl memory) = inl memory
     missing e (inr lacked) = let lacks = lacking lacked.0 lacked.1 in inr (world, there, subst (SemverMergeCause u w) (sym lacked.2) (type_missing_25 lacks.0 lacked.0 lacks.1 lacks.2))
 
-pub new-requires-clause-in_range : goal.new-requires-clause-in_range
-new-requires-clause-in_range c =
-    imports_within c.args.graph.now c.requires.valid c.args.world c.at-current.result.now (ap (slice_get c.args.graph.now.worlds) (sym c.index.ensures) ∙ c.at-current.ensures)
-
 pub returns-in_err-check_functions-clause-cause : goal.returns-in_err-check_functions-clause-cause
 returns-in_err-check_functions-clause-cause c =
     let there = ap (slice_get c.args.graph.now.worlds) (sym c.index.ensures) ∙ c.at-current.ensures in
@@ -49,13 +44,6 @@ returns-in_err-check_functions-clause-cause c =
     let same : e ≡ c.in_err-check_functions.field-0.0 = is in
     subst (λ (x : ResolveErrorKind). (x ≡ OutOfMemory) ⊎ IsSemverMergeCause c.args.rule c.args.graph.now c.args.world x) (sym same)
     (disagreement c.args.rule c.args.graph.now c.args.world c.at-current.result.now there v c.in_ok-plan.ensures.of c.in_err-check_functions.field-0.0 c.in_err-check_functions.ensures.cause))
-
-pub new_entries-requires-clause-in_range : goal.new_entries-requires-clause-in_range
-new_entries-requires-clause-in_range c =
-    let g = c.args.graph.now in
-    let there = ap (slice_get g.worlds) (sym c.index.ensures) ∙ c.at-current.ensures in
-    subst (λ (x : SemverMerge). (t : ℕ) → Contains (types_of_new_entries x) t → t < length x.graph.types) (sym c.in_ok-plan.ensures.of)
-    (following_within g c.requires.valid c.args.world c.at-current.result.now there c.args.rule)
 
 pub returns-in_err-check_types-clause-cause : goal.returns-in_err-check_types-clause-cause
 returns-in_err-check_types-clause-cause c =

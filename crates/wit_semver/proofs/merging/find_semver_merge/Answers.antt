@@ -6,20 +6,20 @@ use Rattle.wit_semver.specs.SemverMerged.{IsSemverMergeCause}
 use Rattle.wit_semver.proofs.Made.{accepted, can_be_elaborated, elaborated_is, elaborated_valid, kept_accepted, kept_is, kept_valid, refused}
 use Rattle.wit_semver.proofs.merging.find_semver_merge.Goals as goal
 
-pub returns-then-not-is_any_retargeted-clause-ok : goal.returns-then-not-is_any_retargeted-clause-ok
-returns-then-not-is_any_retargeted-clause-ok c =
+pub returns-then-is_empty-clause-ok : goal.returns-then-is_empty-clause-ok
+returns-then-is_empty-clause-ok c =
     kept_is c.args.rule c.args.graph.now c.args.world c.in_ok-entries.entries.imports c.in_ok-entries.entries.targets c.requires.valid c.semver_merges_stay_valid.ensures c.in_ok-entries.ensures.ok
-    c.same_types_keep_worlds.ensures (sym c.is_any_retargeted.ensures ∙ c.if-not-is_any_retargeted.true)
+    c.same_types_keep_worlds.ensures (c.is_empty.ensures.0 c.if-is_empty.true)
 
-pub returns-then-not-is_any_retargeted-clause-valid : goal.returns-then-not-is_any_retargeted-clause-valid
-returns-then-not-is_any_retargeted-clause-valid c =
+pub returns-then-is_empty-clause-valid : goal.returns-then-is_empty-clause-valid
+returns-then-is_empty-clause-valid c =
     kept_valid c.args.rule c.args.graph.now c.args.world c.in_ok-entries.entries.imports c.in_ok-entries.entries.targets c.requires.valid c.semver_merges_stay_valid.ensures c.in_ok-entries.ensures.ok
-    c.same_types_keep_worlds.ensures (sym c.is_any_retargeted.ensures ∙ c.if-not-is_any_retargeted.true)
+    c.same_types_keep_worlds.ensures (c.is_empty.ensures.0 c.if-is_empty.true)
 
-pub returns-then-not-is_any_retargeted-clause-refuses : goal.returns-then-not-is_any_retargeted-clause-refuses
-returns-then-not-is_any_retargeted-clause-refuses c =
+pub returns-then-is_empty-clause-refuses : goal.returns-then-is_empty-clause-refuses
+returns-then-is_empty-clause-refuses c =
     kept_accepted c.args.rule c.args.graph.now c.args.world c.in_ok-entries.entries.imports c.in_ok-entries.entries.targets c.requires.valid c.semver_merges_stay_valid.ensures c.in_ok-entries.ensures.ok
-    c.same_types_keep_worlds.ensures (sym c.is_any_retargeted.ensures ∙ c.if-not-is_any_retargeted.true)
+    c.same_types_keep_worlds.ensures (c.is_empty.ensures.0 c.if-is_empty.true)
 
 pub check_and_elaborate-requires : goal.check_and_elaborate-requires
 check_and_elaborate-requires c =

@@ -1,13 +1,13 @@
-use Rattle.std.proofs.Common.{◌≡◌, ◌∙◌, ◌<◌, ℕ, List, Option, None, Some, IfOk, Contains, length, slice_get, sym, ap, subst}
+use Rattle.std.proofs.Common.{◌≡◌, ◌∙◌, ℕ, List, Option, Some, IfOk, slice_get, sym, ap, subst}
 use Rattle.std.specs.Option.{option_map_or}
 use Rattle.wit_names.specs.declared.track.TrackRule.{TrackRule}
 use Rattle.wit_data.specs.declared.world.World.{World}
 use Rattle.wit_elaboration.specs.Entries.{Entry}
 use Rattle.wit_graph_data.specs.declared.graph.Graph.{Graph}
-use Rattle.wit_semver.specs.SemverMerged.{SemverMerge, semver_merge, types_of_new_entries, with_new_entries, with_new_entries_at}
+use Rattle.wit_semver.specs.SemverMerged.{SemverMerge, semver_merge, with_new_entries, with_new_entries_at}
 use Rattle.wit_semver.specs.declared.merging.NewEntries.{NewEntries}
 use Rattle.wit_semver.specs.steps.Replacing.{HasNewEntries, semver_merge_of, with_lists}
-use Rattle.wit_semver.proofs.NewEntries.{following_within, imports_within, relisted_is}
+use Rattle.wit_semver.proofs.NewEntries.{relisted_is}
 use Rattle.wit_semver.proofs.merging.graph_with_new_entries.Goals as goal
 
 module _ (rule : TrackRule) (g : Graph) (w : ℕ) (world : World) (there : slice_get g.worlds w ≡ Some world) (v : SemverMerge) (of : v ≡ semver_merge rule g world) (entries : NewEntries) (told : HasNewEntries v entries) where
@@ -22,17 +22,6 @@ module _ (rule : TrackRule) (g : Graph) (w : ℕ) (world : World) (there : slice
       ap (λ (es : List Entry). with_lists g w es entries.targets) has.imports_are
       ∙ relisted_is u entries.targets has.targets_are w there
       ∙ sym (ap (λ (o : Option World). option_map_or (λ (x : World). with_new_entries_at (semver_merge rule g x) w) o g) there)
-
-pub new-requires-clause-in_range : goal.new-requires-clause-in_range
-new-requires-clause-in_range c =
-    imports_within c.args.graph.now c.requires.valid c.args.world c.at-current.result.now (ap (slice_get c.args.graph.now.worlds) (sym c.index.ensures) ∙ c.at-current.ensures)
-
-pub new_entries-requires-clause-in_range : goal.new_entries-requires-clause-in_range
-new_entries-requires-clause-in_range c =
-    let g = c.args.graph.now in
-    let there = ap (slice_get g.worlds) (sym c.index.ensures) ∙ c.at-current.ensures in
-    subst (λ (x : SemverMerge). (t : ℕ) → Contains (types_of_new_entries x) t → t < length x.graph.types) (sym c.in_ok-plan.ensures.of)
-    (following_within g c.requires.valid c.args.world c.at-current.result.now there c.args.rule)
 
 pub returns : goal.returns
 returns c =

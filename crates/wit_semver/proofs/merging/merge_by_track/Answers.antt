@@ -1,4 +1,4 @@
-use Rattle.std.proofs.Common.{◌≡◌, ◌∙◌, sym, ap, subst}
+use Rattle.std.proofs.Common.{◌∙◌, sym, ap, subst}
 use Rattle.wit_elaboration.specs.Valid.{IsValid}
 use Rattle.wit_semver.specs.declared.merging.SemverChange.{SemverChange}
 use Rattle.wit_semver.specs.steps.Merging.{graph_after}

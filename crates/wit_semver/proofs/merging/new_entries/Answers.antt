@@ -1,4 +1,4 @@
-use Rattle.std.proofs.Common.{◌≡◌, ◌∙◌, ◌++◌, ℕ, List, Option, Contains, length, ap, subst}
+use Rattle.std.proofs.Common.{◌≡◌, ◌∙◌, ◌++◌, ℕ, List, ap, subst}
 use Rattle.std.specs.List.{flat_map}
 use Rattle.wit_elaboration.specs.Entries.{Entry}
 use Rattle.wit_semver.specs.SemverMerged.{SemverMerge, entry_types, kept_imports, newest_type, types_of_new_entries}
@@ -11,10 +11,6 @@ module _ (u : SemverMerge) (imports : List Entry) (stay : imports ≡ kept_impor
   ids_are : ids ≡ types_of_new_entries u
   ids_are = following_is u ids (are ∙ ap (λ (es : List Entry). flat_map (entry_types u.graph.interfaces) es ++ flat_map (entry_types u.graph.interfaces) u.world.exports) stay)
 
-pub new_targets-requires-clause-in_range : goal.new_targets-requires-clause-in_range
-new_targets-requires-clause-in_range c t has =
-    c.requires.in_range t (subst (λ (ids : List ℕ). Contains ids t) (ids_are (semver_merge_of c.args.plan.now) c.in_ok-imports.imports c.in_ok-imports.ensures c.in_ok-types.types c.in_ok-types.ensures) has)
-
 pub returns : goal.returns
 returns c =
     let u = semver_merge_of c.args.plan.now in
@@ -22,5 +18,5 @@ returns c =
     record {
       imports_are = c.in_ok-imports.ensures;
       types_are = are;
-      targets_are = subst (λ (xs : List ℕ). IsFilled (newest_type u) xs (length u.graph.types) c.in_ok-targets.targets) are c.in_ok-targets.ensures;
+      targets_are = subst (λ (xs : List ℕ). IsFilled (newest_type u) xs c.in_ok-targets.targets) are c.in_ok-targets.ensures;
     }

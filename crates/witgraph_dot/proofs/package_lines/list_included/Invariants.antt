@@ -1,10 +1,10 @@
 use Rattle.std.proofs.Common.{◌≡◌, drop, fold}
-use Rattle.witgraph_dot.specs.Pushed.{with_brought_imports, with_brought_includes}
+use Rattle.witgraph_dot.specs.Pushed.{with_brought}
 use Rattle.witgraph_dot.proofs.package_lines.list_included.Given as goal
 
 -- with what the includes that are left bring it has all
 abbrev pub invariant-loop-include : goal.invariant-loop-include
 invariant-loop-include l = record {
-  listed : fold with_brought_imports l.listing.imports (drop l.include-index l.includes) ≡ fold with_brought_imports l.fn.listing.imports l.includes;
-  added : fold with_brought_includes l.listing.includes (drop l.include-index l.includes) ≡ fold with_brought_includes l.fn.listing.includes l.includes;
+  listed : fold with_brought l.listing.imports (drop l.include-index l.includes) ≡ fold with_brought l.fn.listing.imports l.includes;
+  added : fold with_brought l.listing.includes (drop l.include-index l.includes) ≡ fold with_brought l.fn.listing.includes l.includes;
 }

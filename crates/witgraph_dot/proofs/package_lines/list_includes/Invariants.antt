@@ -1,7 +1,7 @@
 use Rattle.std.proofs.Common.{◌≡◌, ◌++◌, drop, filter_map}
 use Rattle.wit_data.specs.declared.world.WorldInclude.{WorldInclude}
-use Rattle.witgraph_dot.specs.Listed.{with_all_includes}
-use Rattle.witgraph_dot.specs.Pushed.{includes_for, line_includes, graph_world}
+use Rattle.witgraph_dot.specs.Listed.{with_links}
+use Rattle.witgraph_dot.specs.Pushed.{links_for, line_includes, graph_world}
 use Rattle.witgraph_dot.proofs.package_lines.list_includes.Given as goal
 
 -- with what the lines that are left include it has all
@@ -9,10 +9,10 @@ abbrev pub invariant-loop-include : goal.invariant-loop-include
 invariant-loop-include l = record {
   kept : l.listing.imports ≡ l.fn.listing.imports;
   added :
-      with_all_includes l.listing.includes
-      (includes_for (filter_map (λ (include : WorldInclude). graph_world l.resolve.graph l.«package» include.id) (drop l.include-index l.include-items)) l.id)
-      ≡ with_all_includes l.fn.listing.includes (includes_for (line_includes l.resolve.graph l.«package» l.world) l.id);
+      with_links l.listing.includes
+      (links_for (filter_map (λ (include : WorldInclude). graph_world l.resolve.graph l.«package» include.id) (drop l.include-index l.include-items)) l.id)
+      ≡ with_links l.fn.listing.includes (links_for (line_includes l.resolve.graph l.«package» l.world) l.id);
   gathered :
-      l.includes.items ++ includes_for (filter_map (λ (include : WorldInclude). graph_world l.resolve.graph l.«package» include.id) (drop l.include-index l.include-items)) l.id
-      ≡ l.fn.includes.items ++ includes_for (line_includes l.resolve.graph l.«package» l.world) l.id;
+      l.includes.items ++ links_for (filter_map (λ (include : WorldInclude). graph_world l.resolve.graph l.«package» include.id) (drop l.include-index l.include-items)) l.id
+      ≡ l.fn.includes.items ++ links_for (line_includes l.resolve.graph l.«package» l.world) l.id;
 }

@@ -2,10 +2,8 @@ use Rattle.std.proofs.Common.{◌+◌, ℕ, drop}
 use Rattle.std.specs.List.{enumerate_from}
 use Rattle.wit_data.specs.declared.world.World.{World}
 use Rattle.witgraph_dot.proofs.Gathered.{first-left, others-end, others-make}
-use Rattle.witgraph_dot.specs.Listed.{and_import, and_include}
-use Rattle.witgraph_dot.specs.Pushed.{world_imports, world_includes}
-use Rattle.witgraph_dot.specs.declared.listing.Import.{Import}
-use Rattle.witgraph_dot.specs.declared.listing.Include.{Include}
+use Rattle.witgraph_dot.specs.Listed.{and_link}
+use Rattle.witgraph_dot.specs.Pushed.{world_links, graph_world, line_imports, line_includes}
 use Rattle.witgraph_dot.proofs.package_lines.list_package.Goals as goal
 
 pub loop-index-preserved : goal.loop-index-preserved
@@ -20,12 +18,12 @@ loop-index-preserved c =
     let split = first-left worlds i c.world-item.result c.loop-index-test.true c.world-item.is in
     record {
       listed =
-          others-make (λ (at : ℕ × World). world_imports g p at.0 at.1) first left others split (λ all (one : Import). and_import all one.world one.interface) c.loop-index.listing.imports
+          others-make (λ (at : ℕ × World). world_links (line_imports g p at.1) (graph_world g p at.0)) first left others split (λ all (one : ℕ × ℕ). and_link all one.0 one.1) c.loop-index.listing.imports
           c.list_world.new.listing.imports _ c.loop-index.invariant.listed c.in_ok-list_world.ensures.imports;
       added =
-          others-make (λ (at : ℕ × World). world_includes g p at.0 at.1) first left others split (λ all (one : Include). and_include all one.world one.included) c.loop-index.listing.includes
+          others-make (λ (at : ℕ × World). world_links (line_includes g p at.1) (graph_world g p at.0)) first left others split (λ all (one : ℕ × ℕ). and_link all one.0 one.1) c.loop-index.listing.includes
           c.list_world.new.listing.includes _ c.loop-index.invariant.added c.in_ok-list_world.ensures.includes;
       gathered =
-          others-end (λ (at : ℕ × World). world_includes g p at.0 at.1) first left others split c.loop-index.includes.items c.list_world.new.includes.items _ c.loop-index.invariant.gathered
+          others-end (λ (at : ℕ × World). world_links (line_includes g p at.1) (graph_world g p at.0)) first left others split c.loop-index.includes.items c.list_world.new.includes.items _ c.loop-index.invariant.gathered
           c.in_ok-list_world.ensures.gathered;
     }

@@ -1,22 +1,43 @@
-use Rattle.std.proofs.Common.{◌≡◌, ◌++◌, ◌∙◌, ◌∷◌, [], ap, sym, subst, string_bytes, ℕ, List}
-use Rattle.wit_script_explain.specs.Explained.{place_of, rest_of}
+use Rattle.std.proofs.Common.{◌≡◌, ◌++◌, ◌∙◌, ◌∷◌, [], ap, is_some, sym, subst, string_bytes, ℕ, List, rules}
+use Rattle.std.specs.Vec.Iter.{into_iter_items}
+use Rattle.wit_script.specs.Answer.{InTurn}
+use Rattle.wit_script.specs.Ready.{CanAllBeAsked}
+use Rattle.wit_script.specs.facts.Answered.{InTurn-more}
+use Rattle.wit_script.specs.facts.Waiting.{first-comes}
+use Rattle.wit_script_lines.specs.declared.request.Request.{Request}
+use Rattle.wit_script_explain.specs.Explained.{with_places}
+use Rattle.wit_script_explain.specs.facts.CarriedOn.{desk-come, rest_after-more, with_places-more}
+use Rattle.wit_script_explain.specs.steps.Explained.{place_of, rest_after, rest_of}
 use Rattle.wit_script_explain.specs.declared.lines.CommandPlace.{CommandPlace}
-use Rattle.witgraph_dot.proofs.Staged.{AllMake-more, rest_after-more}
 use Rattle.witgraph_dot.proofs.stage.Stage.after.Goals as goal
-use Rattle.witgraph_dot.specs.Made.{AllMake, CommandMakes, new_stage}
+use Rattle.witgraph_dot.specs.Made.{CommandMakes, new_stage}
+
+pub carry_out-requires : goal.carry_out-requires
+carry_out-requires c =
+    let left : into_iter_items c.loop-command.command-iterator ≡ c.in-Some.command ∷ into_iter_items c.next.new.self = search rules in
+    first-comes c.in-Some.command (into_iter_items c.next.new.self) (is_some c.loop-command.stage.desk.second)
+    (subst (λ (l : List Request). CanAllBeAsked l (is_some c.loop-command.stage.desk.second)) left c.loop-command.invariant.come)
 
 pub loop-command-preserved : goal.loop-command-preserved
 loop-command-preserved c =
     let script = c.args.script.now in
     let before = c.loop-command.stage in
     let after = c.carry_out.new.self in
+    let command = c.in-Some.command in
     let text = string_bytes c.in_ok-text.text in
+    let left : into_iter_items c.loop-command.command-iterator ≡ command ∷ into_iter_items c.next.new.self = search rules in
     let longer : string_bytes c.push_str.new.self ≡ string_bytes c.loop-command.all ++ text =
     c.in_ok-push_str.ensures.bytes ∙ ap (λ (t : List ℕ). string_bytes c.loop-command.all ++ t) c.deref.ensures in
-    let made = subst (λ (p : CommandPlace). CommandMakes script p before c.in-Some.command text after)
+    let place = place_of script (rest_after script.commands c.loop-command.yielded) in
+    let made = subst (λ (p : CommandPlace). CommandMakes script before (p, command) text after)
     (c.next_place.ensures.first ∙ ap (place_of script) c.loop-command.invariant.places) c.in_ok-text.ensures in
     record {
-      made = subst (λ (t : List ℕ). AllMake script script.commands new_stage (c.loop-command.yielded ++ c.in-Some.command ∷ []) t after) (sym longer)
-          (AllMake-more script script.commands new_stage before after c.loop-command.yielded c.in-Some.command (string_bytes c.loop-command.all) text c.loop-command.invariant.made made);
-      places = c.next_place.ensures.rest ∙ ap rest_of c.loop-command.invariant.places ∙ rest_after-more script.commands c.loop-command.yielded c.in-Some.command;
+      made =
+          subst (λ (t : List ℕ). InTurn (CommandMakes script) new_stage (with_places script script.commands (c.loop-command.yielded ++ command ∷ [])) t after) (sym longer)
+          (subst (λ (l : List (CommandPlace × Request)). InTurn (CommandMakes script) new_stage l (string_bytes c.loop-command.all ++ text) after) (with_places-more script script.commands c.loop-command.yielded command)
+          (InTurn-more (CommandMakes script) new_stage before after (with_places script script.commands c.loop-command.yielded) (place, command) (string_bytes c.loop-command.all) text c.loop-command.invariant.made made));
+      places = c.next_place.ensures.rest ∙ ap rest_of c.loop-command.invariant.places ∙ rest_after-more script.commands c.loop-command.yielded command;
+      come =
+          desk-come script place before.desk after.desk command (into_iter_items c.next.new.self) made.0 text made.1
+          (subst (λ (l : List Request). CanAllBeAsked l (is_some before.desk.second)) left c.loop-command.invariant.come);
     }

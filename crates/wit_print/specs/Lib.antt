@@ -1,0 +1,10 @@
+pub mod Names
+pub mod Headings
+pub mod Types
+pub mod Functions
+pub mod Definitions
+pub mod Interfaces
+pub mod Worlds
+pub mod Packages
+pub mod steps
+pub mod examples
