@@ -527,17 +527,20 @@ class Resolves(unittest.TestCase):
         self.assertEqual(one_by_one(), at_once())
         last = list(linking.lines(one_by_one()))[-1]
         self.assertEqual(last, "chain:p199/types turn: func(it: t) -> t; w imports 200")
-        self.assertLessEqual(least_time(one_by_one), 1.5 * least_time(at_once))
+        slow, fast = least_times(one_by_one, at_once)
+        self.assertLessEqual(slow, 1.5 * fast)
 
 
-def least_time(run):
-    """How long a run takes of the processor, in seconds: the least of five."""
-    times = []
-    for _ in range(5):
-        begun = time.process_time()
-        run()
-        times.append(time.process_time() - begun)
-    return min(times)
+def least_times(*runs):
+    """How long each run takes of the processor, in seconds: the least of nine. They take turns, so that what slows the
+    machine for a while slows each of them."""
+    times = [[] for _ in runs]
+    for _ in range(9):
+        for run, taken in zip(runs, times):
+            begun = time.process_time()
+            run()
+            taken.append(time.process_time() - begun)
+    return [min(taken) for taken in times]
 
 
 EMPTY = (
