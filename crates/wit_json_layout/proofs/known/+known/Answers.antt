@@ -1,6 +1,5 @@
-use Rattle.std.proofs.Common.{◌≡◌, ◌+◌, ◌<◌, List, [], ◌∷◌, ◌++◌, Some, None, length, drop, sym, ap, ◌∙◌, subst, arith, rules}
+use Rattle.std.proofs.Common.{◌≡◌, ◌+◌, ◌<◌, [], ◌∷◌, ◌++◌, Some, None, length, drop, sym, ap, ◌∙◌, subst, arith, rules}
 use Rattle.std.proofs.lemmas.List.{drop_all, drop_more}
-use Rattle.json.specs.Json.{item, member}
 use Rattle.json.specs.Tree.{json_tokens, items_tokens, members_tokens}
 use Rattle.json.specs.Value.{value_view, items_view, members_view}
 use Rattle.json.proofs.Trees.{item_smaller, member_smaller, items_before, items_before-no_items, members_before, members_before-no_members}
@@ -58,18 +57,18 @@ known_members-loop-member-preserved t c =
     let rest = known_members c.args.layout (members_view (drop (l.member-index + 1) xs)) in
     let all = ap (λ ys. members_before l.known.items (known_members c.args.layout (members_view ys))) (sym here) ∙ l.invariant in
     elim c.match-part.branch [
-      known_members-in-Some+in_ok-part+in_ok-push w ↦
-        let pushed : c.match-part.known.items ≡ l.known.items ++ (x.0, w.in_ok-part.part) ∷ [] = search rules in
-        let known : part c.args.layout x.0.now ≡ Some w.in-Some.inner = grind arith in
-        ap (λ vs. members_before vs rest) pushed
-        ∙ one_more_member l.known.items x.0 w.in_ok-part.part _ rest w.in_ok-part.ensures
-        ∙ ap (members_before l.known.items) (member_kept c.args.layout w.in-Some.inner x.0.now (value_view x.1) rest known)
-        ∙ all
-    | known_members-in_default w ↦
-        let unknown : part c.args.layout x.0.now ≡ None = grind arith in
-        ap (λ it. members_before it.items rest) w.known-is
-        ∙ ap (members_before l.known.items) (member_dropped c.args.layout x.0.now (value_view x.1) rest unknown)
-        ∙ all
+      | known_members-in-Some+in_ok-part+in_ok-push w ↦
+          let pushed : c.match-part.known.items ≡ l.known.items ++ (x.0, w.in_ok-part.part) ∷ [] = search rules in
+          let known : part c.args.layout x.0.now ≡ Some w.in-Some.inner = grind arith in
+          ap (λ vs. members_before vs rest) pushed
+          ∙ one_more_member l.known.items x.0 w.in_ok-part.part _ rest w.in_ok-part.ensures
+          ∙ ap (members_before l.known.items) (member_kept c.args.layout w.in-Some.inner x.0.now (value_view x.1) rest known)
+          ∙ all
+      | known_members-in_default w ↦
+          let unknown : part c.args.layout x.0.now ≡ None = grind arith in
+          ap (λ it. members_before it.items rest) w.known-is
+          ∙ ap (members_before l.known.items) (member_dropped c.args.layout x.0.now (value_view x.1) rest unknown)
+          ∙ all
     ]
 
 pub known_members-returns : goal.known_members-returns
