@@ -53,7 +53,8 @@ fn known_members<'a>(
     members: &Vec<(&'a str, Value<'a>)>,
 ) -> Result<Vec<(&'a str, Value<'a>)>, AllocError>
     ensures { IfOk result
-        (λ known. members_view known.items ≡ known_members layout (members_view members.now.items)) }
+        (λ known. members_view known.items
+        ≡ known_members layout (members_view members.now.items)) }
 {
     let mut known = Vec::with_capacity(alloc, members.len())?;
     for member in members {

@@ -267,7 +267,8 @@ impl Layout {
 
 /// The layout of the member of a name, or None where it isn't among these.
 fn named_part(parts: Parts, name: &str) -> Option<Layout>
-    ensures { result ≡ lookup (bytes_eq name.now) (map (λ member. (member.0.now, member.1)) parts.now) }
+    ensures { result ≡ lookup (bytes_eq name.now)
+        (map (λ member. (member.0.now, member.1)) parts.now) }
 {
     for member in parts {
         if name == member.0 {
