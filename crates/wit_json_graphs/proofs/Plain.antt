@@ -56,6 +56,8 @@ use Rattle.wit_json_graphs.specs.Writable.{AreWritableEntries, AreWritableItems,
 use Rattle.wit_json.specs.Whole.{json_of_file, json_of_sources}
 use Rattle.wit_json_graphs.specs.laws.ReadBack.{GroupTextsReadBack, TextsReadBack}
 use Rattle.wit_json_reading.specs.Documents.{if_document}
+use Rattle.wit_json_reading.specs.Stops.{stop_in}
+use Rattle.wit_json.specs.Graph.{compact}
 use Rattle.wit_json_reading.specs.Groups.{read_group}
 use Rattle.wit_json_reading.specs.Packages.{read_package}
 use Rattle.wit_json_graphs.proofs.Packages.{packages_read_back}
@@ -461,7 +463,7 @@ plain_unresolved p fits =
 pub texts_read_back : TextsReadBack
 texts_read_back p fits =
     let plain = plain_unresolved p fits in
-    ap (if_document read_package) (document-print (json_of_unresolved p) plain.numbers (omega (arith, plain.shallow))) ∙ packages_read_back p fits
+    ap (if_document read_package (stop_in (compact (json_of_unresolved p)))) (document-print (json_of_unresolved p) plain.numbers (omega (arith, plain.shallow))) ∙ packages_read_back p fits
 
 -- ---- groups
 
@@ -484,4 +486,4 @@ plain_group g fits =
 pub group_texts_read_back : GroupTextsReadBack
 group_texts_read_back g fits =
     let plain = plain_group g fits in
-    ap (if_document read_group) (document-print (json_of_group g) plain.numbers (omega (arith, plain.shallow))) ∙ groups_read_back g fits
+    ap (if_document read_group (stop_in (compact (json_of_group g)))) (document-print (json_of_group g) plain.numbers (omega (arith, plain.shallow))) ∙ groups_read_back g fits
