@@ -1,7 +1,7 @@
 -- Where a text stops being JSON, byte by byte.
 use Rattle.std.proofs.Common.{◌≡◌, ◌∙◌, ◌<◌, ◌≤◌, ◌+◌, ◌++◌, ℕ, suc, List, [], ◌∷◌, length, get_or, drop, drop-cons, refl, sym, ap, arith}
 use Rattle.std.proofs.lemmas.List.{drop_all}
-use Rattle.wit_json_reading.specs.Stops.{Stopped, at_end, by_move, innermost, stop_from}
+use Rattle.wit_json_reading.specs.Stops.{Stopped, where_ended, by_move, innermost, stop_from}
 use Rattle.wit_json_reading.specs.Syntax.{awaited, next}
 use Rattle.wit_json_reading.specs.declared.syntax.Bracket.{Bracket}
 use Rattle.wit_json_reading.specs.declared.syntax.Move.{Move}
@@ -22,5 +22,5 @@ none_left text i end = drop_all i text end
 
 -- no byte is left
 pub at_the_end : (text : List ℕ) (brackets : List Bracket) (s : State) (i : ℕ) (whole : Stopped) → length text ≤ i → stop_from brackets s i (drop i text) ≡ whole
-    → at_end brackets s i ≡ whole
+    → where_ended brackets s i ≡ whole
 at_the_end text brackets s i whole end so_far = sym (ap (stop_from brackets s i) (none_left text i end)) ∙ so_far

@@ -24,8 +24,8 @@ abbrev pub less_innermost : List Bracket → List Bracket
 less_innermost brackets = take (length brackets - 1) brackets
 
 -- the text has ended
-abbrev pub at_end : List Bracket → State → ℕ → Stopped
-at_end brackets s n =
+abbrev pub where_ended : List Bracket → State → ℕ → Stopped
+where_ended brackets s n =
     if may_end s (innermost brackets) then None
     else Some (n, expected.UnfinishedJson (awaited s (innermost brackets)))
 
@@ -40,7 +40,7 @@ by_move brackets part n Stop k = Some (n, expected.Json part)
 
 -- from place n on
 unfoldable pub stop_from : List Bracket → State → ℕ → List ℕ → Stopped
-stop_from brackets s n [] = at_end brackets s n
+stop_from brackets s n [] = where_ended brackets s n
 stop_from brackets s n (b ∷ bs) =
     by_move brackets (awaited s (innermost brackets)) n (next s (innermost brackets) b)
     (λ brackets s. stop_from brackets s (suc n) bs)

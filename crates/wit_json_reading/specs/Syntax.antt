@@ -99,8 +99,8 @@ is_c_or_more b = (nat_le 99 b && nat_le b 102) || (nat_le 67 b && nat_le b 70)
 abbrev pub is_d : ℕ → Bool
 is_d b = (b == 100) || (b == 68)
 
-abbrev pub only : Bool → Escape → Option Inside
-only may e = if may then Some (inside.Escape e) else None
+abbrev pub next_escape : Bool → Escape → Option Inside
+next_escape may e = if may then Some (inside.Escape e) else None
 
 abbrev pub code_digit : ℕ → Option Inside
 code_digit b =
@@ -123,10 +123,10 @@ in_escape escape.Two b = hex_digit b (inside.Escape escape.One)
 in_escape escape.One b = hex_digit b inside.Characters
 in_escape escape.FirstHalfTwo b = hex_digit b (inside.Escape escape.FirstHalfOne)
 in_escape escape.FirstHalfOne b = hex_digit b (inside.Escape escape.FirstHalf)
-in_escape escape.FirstHalf b = only (b == 92) escape.SecondBackslash
-in_escape escape.SecondBackslash b = only (b == 117) escape.SecondCode
-in_escape escape.SecondCode b = only (is_d b) escape.SecondCodeD
-in_escape escape.SecondCodeD b = only (is_c_or_more b) escape.Two
+in_escape escape.FirstHalf b = next_escape (b == 92) escape.SecondBackslash
+in_escape escape.SecondBackslash b = next_escape (b == 117) escape.SecondCode
+in_escape escape.SecondCode b = next_escape (is_d b) escape.SecondCodeD
+in_escape escape.SecondCodeD b = next_escape (is_c_or_more b) escape.Two
 
 -- ---- numbers and words
 
@@ -234,27 +234,27 @@ awaited (state.Word w n) around = word_part w
 
 -- ---- where a text may end
 
-abbrev pub is_number : Number → Bool
-is_number number.Minus = false
-is_number number.Zero = true
-is_number number.Whole = true
-is_number number.Dot = false
-is_number number.Fraction = true
-is_number number.Mark = false
-is_number number.Sign = false
-is_number number.Exponent = true
+abbrev pub is_whole_number : Number → Bool
+is_whole_number number.Minus = false
+is_whole_number number.Zero = true
+is_whole_number number.Whole = true
+is_whole_number number.Dot = false
+is_whole_number number.Fraction = true
+is_whole_number number.Mark = false
+is_whole_number number.Sign = false
+is_whole_number number.Exponent = true
 
-abbrev pub is_whole : State → Bool
-is_whole state.Value = false
-is_whole state.ListBegun = false
-is_whole state.ObjectBegun = false
-is_whole state.Name = false
-is_whole state.NameEnded = false
-is_whole state.ValueEnded = true
-is_whole (state.String r i) = false
-is_whole (state.Number n) = is_number n
-is_whole (state.Word w n) = false
+abbrev pub ends_value : State → Bool
+ends_value state.Value = false
+ends_value state.ListBegun = false
+ends_value state.ObjectBegun = false
+ends_value state.Name = false
+ends_value state.NameEnded = false
+ends_value state.ValueEnded = true
+ends_value (state.String r i) = false
+ends_value (state.Number n) = is_whole_number n
+ends_value (state.Word w n) = false
 
 -- behind a value that nothing holds
 abbrev pub may_end : State → Option Bracket → Bool
-may_end s around = is_whole s && is_none around
+may_end s around = ends_value s && is_none around

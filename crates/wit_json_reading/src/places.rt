@@ -1,6 +1,5 @@
 //! Lines and columns of faults.
 ghost use Rattle.std.specs.Prelude.{◌≡◌, ◌≤◌, length};
-ghost use Rattle.std.specs.Fmt.{is_char_start};
 ghost use Rattle.wit_sources.specs.Lines.{column, line_number};
 
 /// Where in a text a fault is: how many bytes stand before it, and its line and column, both from 1. Lines end at line feeds,
@@ -25,7 +24,7 @@ pub(crate) fn place_at(text: &str, offset: usize) -> FaultPlace
         if bytes[index] == b'\n' {
             line += 1;
             column = 1;
-        } else if is_char_start(bytes[index]) {
+        } else if bytes[index] < 0x80 || bytes[index] >= 0xC0 {
             column += 1;
         }
     }
@@ -34,11 +33,4 @@ pub(crate) fn place_at(text: &str, offset: usize) -> FaultPlace
         line,
         column,
     }
-}
-
-/// Whether a byte is the first of a character.
-fn is_char_start(byte: u8) -> bool
-    ensures { result ≡ is_char_start byte }
-{
-    byte < 0x80 || byte >= 0xC0
 }

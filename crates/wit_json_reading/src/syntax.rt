@@ -1,6 +1,6 @@
 //! What may come next in a JSON text (RFC 8259), byte by byte.
 ghost use Rattle.std.specs.Prelude.{◌≡◌};
-ghost use Rattle.wit_json_reading.specs.Syntax.{awaited, awaited_in_escape, awaited_in_number, begin_name, begin_value, begun, behind_value, code_digit, code_digit_behind_d, colon, comma_or, digit_or, end_value, hex_digit, in_characters, in_escape, in_number, in_string, in_word, is_c_or_more, is_number, letter, may_end, next, only, or_close, or_space, past_fraction, past_whole, string_ended, word_text};
+ghost use Rattle.wit_json_reading.specs.Syntax.{awaited, awaited_in_escape, awaited_in_number, begin_name, begin_value, begun, behind_value, code_digit, code_digit_behind_d, colon, comma_or, digit_or, end_value, ends_value, hex_digit, in_characters, in_escape, in_number, in_string, in_word, is_c_or_more, is_whole_number, letter, may_end, next, next_escape, or_close, or_space, past_fraction, past_whole, string_ended, word_text};
 
 /// What is open around a place: a list or an object.
 #[derive(Clone, Copy)]
@@ -300,10 +300,10 @@ fn in_escape(escape: Escape, byte: u8) -> Option<Inside>
         Escape::One => hex_digit(byte, Inside::Characters),
         Escape::FirstHalfTwo => hex_digit(byte, Inside::Escape(Escape::FirstHalfOne)),
         Escape::FirstHalfOne => hex_digit(byte, Inside::Escape(Escape::FirstHalf)),
-        Escape::FirstHalf => only(byte == b'\\', Escape::SecondBackslash),
-        Escape::SecondBackslash => only(byte == b'u', Escape::SecondCode),
-        Escape::SecondCode => only(byte == b'd' || byte == b'D', Escape::SecondCodeD),
-        Escape::SecondCodeD => only(is_c_or_more(byte), Escape::Two),
+        Escape::FirstHalf => next_escape(byte == b'\\', Escape::SecondBackslash),
+        Escape::SecondBackslash => next_escape(byte == b'u', Escape::SecondCode),
+        Escape::SecondCode => next_escape(byte == b'd' || byte == b'D', Escape::SecondCodeD),
+        Escape::SecondCodeD => next_escape(is_c_or_more(byte), Escape::Two),
     }
 }
 
@@ -361,8 +361,8 @@ fn is_c_or_more(byte: u8) -> bool
 }
 
 /// A place in an escape, where the byte before it may stand there.
-fn only(may: bool, escape: Escape) -> Option<Inside>
-    ensures { result ≡ only may escape }
+fn next_escape(may: bool, escape: Escape) -> Option<Inside>
+    ensures { result ≡ next_escape may escape }
 {
     if may {
         Some(Inside::Escape(escape))
@@ -460,17 +460,23 @@ pub(crate) fn begun(bracket: Bracket) -> State
 pub(crate) fn may_end(state: State, around: Option<Bracket>) -> bool
     ensures { result ≡ may_end state around }
 {
-    let is_whole = match state {
+    ends_value(state) && around.is_none()
+}
+
+/// Whether a value may end in a state.
+fn ends_value(state: State) -> bool
+    ensures { result ≡ ends_value state }
+{
+    match state {
         State::ValueEnded => true,
-        State::Number(number) => is_number(number),
+        State::Number(number) => is_whole_number(number),
         _ => false,
-    };
-    is_whole && around.is_none()
+    }
 }
 
 /// Whether what has come of a number is one.
-fn is_number(number: Number) -> bool
-    ensures { result ≡ is_number number }
+fn is_whole_number(number: Number) -> bool
+    ensures { result ≡ is_whole_number number }
 {
     match number {
         Number::Zero | Number::Whole | Number::Fraction | Number::Exponent => true,

@@ -203,9 +203,9 @@ a_fault =
       expected = expected.Text;
     }
 
--- in the second line
+-- in the first line
 abbrev pub a_place : FaultPlace
-a_place = record { offset = 29; line = 2; column = 18 }
+a_place = record { offset = 29; line = 1; column = 30 }
 
 pub record ExamplesOfDocuments : Type 0 where
   -- the replies to what made another graph stand within that to its merge
@@ -217,13 +217,13 @@ pub record ExamplesOfDocuments : Type 0 where
   -- the path of a fault from the whole down
   pub fault : compact (json_of_fault a_fault a_place)
       ≡ codes "{\"fault\":{\"path\":[\"commands\",0,\"add-feature\"],"
-      ++ codes "\"offset\":29,\"line\":2,\"column\":18,\"expected\":\"a text\"}}"
+      ++ codes "\"offset\":29,\"line\":1,\"column\":30,\"expected\":\"a text\"}}"
   pub not_upwards : compact (json_of_fault a_fault a_place)
       ≢ codes "{\"fault\":{\"path\":[\"add-feature\",0,\"commands\"],"
-      ++ codes "\"offset\":29,\"line\":2,\"column\":18,\"expected\":\"a text\"}}"
+      ++ codes "\"offset\":29,\"line\":1,\"column\":30,\"expected\":\"a text\"}}"
   pub not_turned : compact (json_of_fault a_fault a_place)
       ≢ codes "{\"fault\":{\"path\":[\"commands\",0,\"add-feature\"],"
-      ++ codes "\"offset\":29,\"line\":18,\"column\":2,\"expected\":\"a text\"}}"
+      ++ codes "\"offset\":29,\"line\":30,\"column\":1,\"expected\":\"a text\"}}"
   -- nothing was asked of an empty graph
   pub nothing : compact
       (json_of_output [] new_state.graph new_state.features Published new_state.source_map)
