@@ -1,5 +1,5 @@
 -- What may come next in a JSON text (RFC 8259), byte by byte.
-use Rattle.std.specs.Prelude.{ℕ, suc, Bool, true, false, ◌&&◌, ◌||◌, ◌==◌, nat_lt, nat_le, List, length, slice_index, Option, Some, None, codes, if◌then◌else◌, is_none}
+use Rattle.std.specs.Prelude.{ℕ, ◌+◌, Bool, true, false, ◌&&◌, ◌||◌, ◌==◌, nat_lt, nat_le, List, length, slice_index, Option, Some, None, codes, if◌then◌else◌, is_none}
 use Rattle.std.specs.Char.{is_ascii_digit, is_ascii_hexdigit}
 use Rattle.wit_json_reading.specs.declared.syntax.Bracket.{Bracket}
 use Rattle.wit_json_reading.specs.declared.syntax.Bracket.TheVariants as bracket
@@ -159,12 +159,15 @@ word_text word.False = codes "false"
 word_text word.Null = codes "null"
 
 -- one more letter of a word
-abbrev pub in_word : Word → ℕ → ℕ → Move
-in_word w n b =
-    if nat_le (length (word_text w)) n then Stop
-    else if slice_index (word_text w) n == b then
-    (if n + 1 == length (word_text w) then To state.ValueEnded else To (state.Word w (n + 1)))
+abbrev pub in_letters : List ℕ → Word → ℕ → ℕ → Move
+in_letters letters w n b =
+    if nat_le (length letters) n then Stop
+    else if slice_index letters n == b then
+    (if n + 1 == length letters then To state.ValueEnded else To (state.Word w (n + 1)))
     else Stop
+
+abbrev pub in_word : Word → ℕ → ℕ → Move
+in_word w n b = in_letters (word_text w) w n b
 
 -- ---- what a byte does
 

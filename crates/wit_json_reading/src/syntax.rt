@@ -1,6 +1,6 @@
 //! What may come next in a JSON text (RFC 8259), byte by byte.
 ghost use Rattle.std.specs.Prelude.{◌≡◌};
-ghost use Rattle.wit_json_reading.specs.Syntax.{awaited, awaited_in_escape, awaited_in_number, begin_name, begin_value, begun, behind_value, code_digit, code_digit_behind_d, colon, comma_or, digit_or, end_value, ends_value, hex_digit, in_characters, in_escape, in_number, in_string, in_word, is_c_or_more, is_whole_number, letter, may_end, next, next_escape, or_close, or_space, past_fraction, past_whole, string_ended, word_text};
+ghost use Rattle.wit_json_reading.specs.Syntax.{awaited, awaited_in_escape, awaited_in_number, begin_name, begin_value, begun, behind_value, code_digit, code_digit_behind_d, colon, comma_or, digit_or, end_value, ends_value, hex_digit, in_characters, in_escape, in_letters, in_number, in_string, in_word, is_c_or_more, is_whole_number, letter, may_end, next, next_escape, or_close, or_space, past_fraction, past_whole, string_ended, word_text};
 
 /// What is open around a place: a list or an object.
 #[derive(Clone, Copy)]
@@ -195,6 +195,7 @@ fn or_close(bracket: u8, byte: u8, other: Move) -> Move
 }
 
 /// The first byte of a value.
+#[tactic(auto, unfolding(crate::specs::Syntax::begin_value))]
 fn begin_value(byte: u8) -> Move
     ensures { result ≡ begin_value byte }
 {
@@ -308,6 +309,7 @@ fn in_escape(escape: Escape, byte: u8) -> Option<Inside>
 }
 
 /// What follows a backslash.
+#[tactic(auto, unfolding(crate::specs::Syntax::letter))]
 fn letter(byte: u8) -> Option<Inside>
     ensures { result ≡ letter byte }
 {
@@ -425,7 +427,13 @@ fn past_fraction(around: Option<Bracket>, byte: u8) -> Move
 fn in_word(word: Word, count: usize, byte: u8) -> Move
     ensures { result ≡ in_word word count byte }
 {
-    let letters = word_text(word).as_bytes();
+    in_letters(word_text(word).as_bytes(), word, count, byte)
+}
+
+/// The same, by the letters of the word.
+fn in_letters(letters: &[u8], word: Word, count: usize, byte: u8) -> Move
+    ensures { result ≡ in_letters letters.now word count byte }
+{
     if count >= letters.len() || letters[count] != byte {
         Move::Stop
     } else if count + 1 == letters.len() {
