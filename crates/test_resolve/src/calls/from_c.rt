@@ -110,7 +110,7 @@ const DOCUMENTS: [(&[u8], &str); 8] = [
     ),
     (
         b"{\"commands\":1}",
-        "1 63 {\"fault\":{\"path\":[\"commands\"],\"offset\":12,\"expected\":\"a list\"}}",
+        "1 84 {\"fault\":{\"path\":[\"commands\"],\"offset\":12,\"line\":1,\"column\":13,\"expected\":\"a list\"}}",
     ),
     (b"push\xff", "3 0 "),
     (
