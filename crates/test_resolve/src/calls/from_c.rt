@@ -121,7 +121,7 @@ const DOCUMENTS: [(&[u8], &str); 8] = [
     (
         b"{\"commands\":[],\"resolve\":{\"graph\":{\"worlds\":[],\"interfaces\":[{\"name\":null,\"types\":{},\"functions\":{},\"package\":0}],\
         \"types\":[],\"packages\":[]}}}",
-        "1 77 {\"fault\":{\"path\":[\"resolve\",\"graph\"],\"offset\":34,\"expected\":\"a valid graph\"}}",
+        "1 98 {\"fault\":{\"path\":[\"resolve\",\"graph\"],\"offset\":34,\"line\":1,\"column\":35,\"expected\":\"a valid graph\"}}",
     ),
     (b"", WITH_ALL_FEATURES),
     (
