@@ -112,6 +112,6 @@ fn nesting_ends_at_128() {
         let list = format!("{}{}", "[".repeat(depth), "]".repeat(depth));
         let done = run(WITGRAPH_JSON, &[], format!("{{\"commands\":[{list}]}}").as_bytes());
         let output = String::from_utf8(done.stdout).expect("a text");
-        assert_eq!(!output.contains("a JSON value"), is_read, "{depth} deep: {output}");
+        assert_eq!(!output.contains("at most 128 lists"), is_read, "{depth} deep: {output}");
     }
 }
