@@ -119,3 +119,15 @@ pub record ExamplesOfReadQuestions : Type 0 where
       ≡ fault_at (step.Item 0 ∷ to (codes "commands") ∷ []) expected.Command
   pub no_resolve : read_from read_document (codes "{\"commands\":[],\"resolve\":null}")
       ≡ fault_at (to (codes "resolve") ∷ []) expected.Object
+  -- a lenient reading passes over members that a graph hasn't, up to the next fault
+  pub lenient : read_from read_document
+      (codes "{\"lenient\":true,\"resolve\":{\"new\":1,\"graph\":"
+      ++ codes "{\"new\":[],\"worlds\":1}},\"commands\":[]}")
+      ≡ fault_at (to (codes "worlds") ∷ to (codes "graph") ∷ to (codes "resolve") ∷ []) expected.List
+  pub not_lenient : read_from read_document
+      (codes "{\"lenient\":false,\"resolve\":{\"new\":1,\"graph\":"
+      ++ codes "{\"new\":[],\"worlds\":1}},\"commands\":[]}")
+      ≡ fault_at (to (codes "new") ∷ to (codes "resolve") ∷ []) expected.NoMember
+  pub not_of_commands : read_from read_document
+      (codes "{\"lenient\":true,\"commands\":[],\"new\":1}")
+      ≡ fault_at (to (codes "new") ∷ []) expected.NoMember
