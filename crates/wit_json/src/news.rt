@@ -140,16 +140,32 @@ impl JsonText {
         self.end_array()
     }
 
-    /// Writes the graph's things as two members.
-    fn things_behind(&mut self, told: Told, graph: &Graph) -> Result<(), AllocError>
+    /// Writes these things as a member.
+    fn graph_member_behind(&mut self, told: Told, graph: &Graph) -> Result<(), AllocError>
         ensures { OnOk result (Adds self.old self.new
-            (member (codes "graph") (json_of_graph (graph_behind told graph.now))
-            ++ member (codes "details") (graph_details (graph_behind told graph.now)))) }
+            (member (codes "graph") (json_of_graph (graph_behind told graph.now)))) }
     {
         self.key("graph")?;
-        self.graph_behind(told, graph)?;
+        self.graph_behind(told, graph)
+    }
+
+    /// Writes what the layout leaves out of them as a member.
+    fn details_member_behind(&mut self, told: Told, graph: &Graph) -> Result<(), AllocError>
+        ensures { OnOk result (Adds self.old self.new
+            (member (codes "details") (graph_details (graph_behind told graph.now)))) }
+    {
         self.key("details")?;
         self.graph_details_behind(told, graph)
+    }
+
+    /// Writes the files behind the first so many as a member.
+    fn files_member_behind(&mut self, told: Told, files: &SourceMap) -> Result<(), AllocError>
+        ensures { OnOk result (Adds self.old self.new
+            (member (codes "sources")
+            (list_of json_of_file (drop told.files (files_of files.now.files))))) }
+    {
+        self.key("sources")?;
+        self.files_behind(files, told.files)
     }
 
     /// Writes what is new of a graph with what stands beside it.
@@ -167,11 +183,11 @@ impl JsonText {
     {
         self.begin_object()?;
         self.member("from", &told)?;
-        self.things_behind(told, graph)?;
+        self.graph_member_behind(told, graph)?;
+        self.details_member_behind(told, graph)?;
         self.member("features", features)?;
         self.member("track-rule", &rule)?;
-        self.key("sources")?;
-        self.files_behind(files, told.files)?;
+        self.files_member_behind(told, files)?;
         self.end_object()
     }
 }
