@@ -28,16 +28,16 @@ use Rattle.wit_json_commands.specs.declared.replies.answers.Answer.{Answer}
 use Rattle.wit_json_commands.specs.declared.replies.answers.Response.{Response}
 use Rattle.wit_json_commands.specs.declared.replies.answers.Response.TheVariants as response
 use Rattle.witgraph_calls.specs.Graphs.{start_for}
-use Rattle.witgraph_calls.specs.News.{AreFirst, Completes, CompletesAll, Stands, left_by, left_by_change, told_all, told_before, told_files, told_nothing}
+use Rattle.witgraph_calls.specs.News.{StayInFront, Completes, CompletesAll, Stands, left_after, left_after_change, told_all, told_before, told_files, told_nothing}
 use Rattle.witgraph_calls.proofs.Growth.{Grows, HasMore, files_behind, files_of_groups, grows_pushed, no_more}
 
 -- ---- lists
 
 -- none of it
-none_first : {X : Type 0} (old new : List X) → AreFirst 0 old new
+none_first : {X : Type 0} (old new : List X) → StayInFront 0 old new
 none_first old new = record { within = omega arith; same = refl }
 
-all_first : {X : Type 0} (n : ℕ) (xs : List X) → n ≤ length xs → AreFirst n xs xs
+all_first : {X : Type 0} (n : ℕ) (xs : List X) → n ≤ length xs → StayInFront n xs xs
 all_first n xs within = record { within = within; same = refl }
 
 still : {X : Type 0} (n : ℕ) (first old more : List X) → n ≤ length first → take n old ≡ take n first → take n (old ++ more) ≡ take n first
@@ -51,16 +51,16 @@ still (suc n) (x ∷ first) (y ∷ old) more within same =
     cc
 
 -- with more behind the list
-stays : {X : Type 0} (n : ℕ) (first old new : List X) → HasMore old new → AreFirst n first old → AreFirst n first new
+stays : {X : Type 0} (n : ℕ) (first old new : List X) → HasMore old new → StayInFront n first old → StayInFront n first new
 stays {X} n first old new more are = record {
   within = are.within;
   same = ap (λ (l : List X). take n l) more.1 ∙ still n first old more.0 are.within are.same;
 }
 
-as_well : {X : Type 0} (n : ℕ) (first old new : List X) → new ≡ old → AreFirst n first old → AreFirst n first new
-as_well {X} n first old new same are = subst (λ (l : List X). AreFirst n first l) (sym same) are
+as_well : {X : Type 0} (n : ℕ) (first old new : List X) → new ≡ old → StayInFront n first old → StayInFront n first new
+as_well {X} n first old new same are = subst (λ (l : List X). StayInFront n first l) (sym same) are
 
-completes : {X : Type 0} (n : ℕ) (old new : List X) → AreFirst n old new → Completes n old new
+completes : {X : Type 0} (n : ℕ) (old new : List X) → StayInFront n old new → Completes n old new
 completes {X} n old new are = sym (take-append-drop n new) ∙ ap (λ (l : List X). l ++ drop n new) are.same
 
 -- ---- states
@@ -180,7 +180,7 @@ files_after _ old added new more same = subst (λ (s : Sources). HasMore (files_
 same_graph : (old new : Graph) → new ≡ old → Grows old new
 same_graph old new same = subst (Grows old) (sym same) (record { worlds = no_more old.worlds; interfaces = no_more old.interfaces; types = no_more old.types; packages = no_more old.packages })
 
-change_stands : (told : Told) (first old new : State) (it : Change) (answer : Reply) → Step old (command_of it) answer new → Stands told first old → Stands (left_by_change it told) first new
+change_stands : (told : Told) (first old new : State) (it : Change) (answer : Reply) → Step old (command_of it) answer new → Stands told first old → Stands (left_after_change it told) first new
 change_stands told first old new (change.AddFeature name) reply.Done step stands = alike told first old new (ap (λ (s : State). s.graph) step) (ap (λ (s : State). s.source_map) step) stands
 change_stands told first old new (change.AddFeature name) (reply.Refused error) step stands = unchanged told first old new step.1 stands
 change_stands told first old new (change.AddFeature name) _ step stands = absurd step
@@ -210,7 +210,7 @@ change_stands told first old new (change.Semver home world) (reply.Refused error
 change_stands told first old new (change.Semver home world) _ step stands = absurd step
 
 -- a change that isn't carried out leaves all
-left_alone : (told : Told) (first old new : State) (it : Change) → new ≡ old → Stands told first old → Stands (left_by_change it told) first new
+left_alone : (told : Told) (first old new : State) (it : Change) → new ≡ old → Stands told first old → Stands (left_after_change it told) first new
 left_alone told first old new (change.Importize home world out) same stands = not_transformed told first old new same stands
 left_alone told first old new (change.Exportize home world out keys) same stands = not_transformed told first old new same stands
 left_alone told first old new (change.Semver home world) same stands = files_stand told first old new (same_files old new (ap (λ (s : State). s.source_map) same)) stands
@@ -226,7 +226,7 @@ merge_stands told first old other new (reply.Refused error) step stands =
     files_stand told first old new (files_after error old.source_map (with_sources old.source_map other.source_map) new.source_map (files_behind old.source_map other.source_map) step.files) stands
 merge_stands told first old other new _ step stands = absurd step
 
-order_stands : (told : Told) (first old new : State) (it : Order) (answer : Response) → Responds old it answer new → Stands told first old → Stands (left_by it told) first new
+order_stands : (told : Told) (first old new : State) (it : Order) (answer : Response) → Responds old it answer new → Stands told first old → Stands (left_after it told) first new
 order_stands told first old new (order.Request (request.Change it)) (response.Answer answer) (inl done) stands =
     change_stands told first old new it done.answered.reply done.answered.step stands
 order_stands told first old new (order.Request (request.Change it)) (response.Answer answer) (inr unshaped) stands = left_alone told first old new it unshaped.same stands
@@ -237,10 +237,10 @@ order_stands told first old new (order.Merge its) (response.Answer answer) done 
 
 -- one after another
 pub orders_stand : (told : Told) (first old new : State) (its : List Order) (replies : List Response) → RespondsEach old its replies new → Stands told first old
-    → Stands (fold (λ (left : Told) (it : Order). left_by it left) told its) first new
+    → Stands (fold (λ (left : Told) (it : Order). left_after it left) told its) first new
 orders_stand told first old new [] [] done stands = unchanged told first old new done stands
 orders_stand told first old new (it ∷ its) (answer ∷ replies) done stands =
-    orders_stand (left_by it told) first done.0 new its replies done.2 (order_stands told first old done.0 it answer done.1 stands)
+    orders_stand (left_after it told) first done.0 new its replies done.2 (order_stands told first old done.0 it answer done.1 stands)
 orders_stand told first old new [] (answer ∷ replies) done stands = absurd done
 orders_stand told first old new (it ∷ its) [] done stands = absurd done
 

@@ -39,18 +39,18 @@ told_files told = record told_nothing { files = told.files }
 
 -- a push adds to the ends of the lists; a world that is turned changes, and so does its package; a semver merge may change
 -- any type and any world
-abbrev pub left_by_change : Change → Told → Told
-left_by_change (change.Importize home world out) told = record told { worlds = 0; packages = 0 }
-left_by_change (change.Exportize home world out keys) told =
+abbrev pub left_after_change : Change → Told → Told
+left_after_change (change.Importize home world out) told = record told { worlds = 0; packages = 0 }
+left_after_change (change.Exportize home world out keys) told =
     record told { worlds = 0; packages = 0 }
-left_by_change (change.Semver home world) told = told_files told
-left_by_change _ told = told
+left_after_change (change.Semver home world) told = told_files told
+left_after_change _ told = told
 
 -- a merge may change anything but the files
-abbrev pub left_by : Order → Told → Told
-left_by (order.Request (request.Change it)) told = left_by_change it told
-left_by (order.Request (request.Ask it)) told = told
-left_by (order.Merge its) told = told_files told
+abbrev pub left_after : Order → Told → Told
+left_after (order.Request (request.Change it)) told = left_after_change it told
+left_after (order.Request (request.Ask it)) told = told
+left_after (order.Merge its) told = told_files told
 
 -- of a graph that takes the place of another one nothing was told
 abbrev pub told_before : Option ResolveParts → Told → Told
@@ -59,7 +59,7 @@ told_before (Some parts) told = told_nothing
 
 abbrev pub told_after : Document → Told → Told
 told_after document told =
-    fold (λ (left : Told) (it : Order). left_by it left) (told_before document.resolve told)
+    fold (λ (left : Told) (it : Order). left_after it left) (told_before document.resolve told)
     document.commands
 
 -- the same of the document that is read
@@ -76,17 +76,17 @@ text_of_news told state =
     compact (json_of_news told state.graph state.features state.track_rule state.source_map)
 
 -- the first so many of a list are there, and are the first of another one
-pub record AreFirst {X : Type 0} (n : ℕ) (old new : List X) : Type 0 where
+pub record StayInFront {X : Type 0} (n : ℕ) (old new : List X) : Type 0 where
   pub within : n ≤ length old
   pub same : take n new ≡ take n old
 
 -- what was told of a state is so in another one
 pub record Stands (told : Told) (old new : State) : Type 0 where
-  pub worlds : AreFirst told.worlds old.graph.worlds new.graph.worlds
-  pub interfaces : AreFirst told.interfaces old.graph.interfaces new.graph.interfaces
-  pub types : AreFirst told.types old.graph.types new.graph.types
-  pub packages : AreFirst told.packages old.graph.packages new.graph.packages
-  pub files : AreFirst told.files (files_of old.source_map.files) (files_of new.source_map.files)
+  pub worlds : StayInFront told.worlds old.graph.worlds new.graph.worlds
+  pub interfaces : StayInFront told.interfaces old.graph.interfaces new.graph.interfaces
+  pub types : StayInFront told.types old.graph.types new.graph.types
+  pub packages : StayInFront told.packages old.graph.packages new.graph.packages
+  pub files : StayInFront told.files (files_of old.source_map.files) (files_of new.source_map.files)
 
 -- a list is what was told of it, and behind that what is new
 abbrev pub Completes : {X : Type 0} → ℕ → List X → List X → Type 0

@@ -1,6 +1,6 @@
 //! What a graph that stays has told of itself, and what is new of it.
 ghost use Rattle.std.specs.Prelude.{◌≡◌, ◌⊎◌, [], fold, string_bytes};
-ghost use Rattle.witgraph_calls.specs.News.{left_by, left_by_change, text_of_news, told_after, told_all, told_before, told_files, told_nothing};
+ghost use Rattle.witgraph_calls.specs.News.{left_after, left_after_change, text_of_news, told_after, told_all, told_before, told_files, told_nothing};
 
 use crate::status::{NO_MEMORY, UNDERSTOOD};
 use std::alloc::Global;
@@ -43,8 +43,8 @@ fn files_of(told: Told) -> Told
 }
 
 /// What a change leaves as it was told.
-fn left_by_change(told: Told, change: &Change) -> Told
-    ensures { result ≡ left_by_change change.now told }
+fn left_after_change(told: Told, change: &Change) -> Told
+    ensures { result ≡ left_after_change change.now told }
 {
     match change {
         Change::Importize { .. } | Change::Exportize { .. } => Told {
@@ -58,23 +58,23 @@ fn left_by_change(told: Told, change: &Change) -> Told
 }
 
 /// What a command leaves as it was told.
-fn left_by(told: Told, order: &Order) -> Told
-    ensures { result ≡ left_by order.now told }
+fn left_after(told: Told, order: &Order) -> Told
+    ensures { result ≡ left_after order.now told }
 {
     match order {
-        Order::Request(Request::Change(change)) => left_by_change(told, change),
+        Order::Request(Request::Change(change)) => left_after_change(told, change),
         Order::Request(Request::Ask(_)) => told,
         Order::Merge(_) => files_of(told),
     }
 }
 
 /// What commands leave, one after another.
-fn left_by_all(told: Told, orders: &Items<Order>) -> Told
-    ensures { result ≡ fold (λ left it. left_by it left) told orders.now }
+fn left_after_all(told: Told, orders: &Items<Order>) -> Told
+    ensures { result ≡ fold (λ left it. left_after it left) told orders.now }
 {
     let mut left = told;
     for order in orders.as_slice() {
-        left = left_by(left, order);
+        left = left_after(left, order);
     }
     left
 }
@@ -93,7 +93,7 @@ fn before(told: Told, parts: &Option<ResolveParts>) -> Told
 pub fn told_after(told: Told, document: &Document) -> Told
     ensures { result ≡ told_after document.now told }
 {
-    left_by_all(before(told, &document.resolve), &document.commands)
+    left_after_all(before(told, &document.resolve), &document.commands)
 }
 
 /// The status and the text of what is new of a graph with what stands beside it.
