@@ -67,9 +67,16 @@ fn carry_out_on(
     let document: Document = read_text(alloc, text)?;
     let left = told_after(*told, &document);
     begin_with(alloc, resolve, document.resolve)?;
-    let replies = reply(alloc, resolve, document.commands);
-    *told = if replies.is_some() { left } else { NOTHING };
-    Ok(replies)
+    match reply(alloc, resolve, document.commands) {
+        Some(replies) => {
+            *told = left;
+            Ok(Some(replies))
+        }
+        None => {
+            *told = NOTHING;
+            Ok(None)
+        }
+    }
 }
 
 /// Puts the graph of a document, if it has one, in the place of another one.
