@@ -151,9 +151,11 @@ uint32_t witgraph_write(witgraph_graph *graph, size_t *needed);
  *     {"from": {"worlds": 3, "interfaces": 5, "types": 9, "packages": 2, "sources": 1}, "graph": .., "details": .., ..}
  *
  * Each number says at which index a list goes on: keep what stands before it, drop the rest, and put the text's things there.
- * So you get what witgraph_write tells. The first text has all, from 0. Later ones have what was pushed since; after an
- * importize or exportize the worlds and packages from 0, after a semver, a merge or another graph everything from 0 but
- * the files that stay.
+ * So you get what witgraph_write tells. The first text has all, from 0. A later one has what came since, and from 0
+ *
+ * - worlds and packages after an importize or exportize, though it be refused;
+ * - all lists but that of files after a semver or a merge;
+ * - all lists after a document with a graph of its own, and after WITGRAPH_CUT_SHORT.
  *
  * The next call doesn't tell this text again, so copy it before another call takes its place. The graph stays as it is.
  *
