@@ -616,14 +616,15 @@ class Commands:
 
 
 def least_times(*runs):
-    """How long each run takes of the processor, in seconds: the least of nine, which alternate."""
+    """How long each run takes of the processor, in seconds: the least of nine. They take turns, so that what slows the
+    machine for a while slows each of them."""
     times = [[] for _ in runs]
     for _ in range(9):
         for run, taken in zip(runs, times):
             begun = time.process_time()
             run()
             taken.append(time.process_time() - begun)
-    return list(map(min, times))
+    return [min(taken) for taken in times]
 
 
 EMPTY = (
