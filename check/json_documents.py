@@ -6,7 +6,8 @@
 PROGRAM reads a document from standard input and writes the one that comes out: the `witgraph_json` that `rt ci` leaves, where
 none is named. A case is a line `=== NAME`, a document, a line `---` and what is to come out.
 
-In `check/json_faults.txt` that is the path of a fault and what was expected there. The document has a mark `«` where the value
+In `check/json_faults.txt` that is the path of a fault and what was expected there; of a graph that isn't valid also the clause
+that it breaks and the message. The document has a mark `«` where the value
 begins at which the fault is: as many bytes stand before it as the offset tells. Of a member that isn't there, docs/JSON.md tells
 no place: such a document has no mark, and the offset is one of its bytes or its end.
 
@@ -49,7 +50,8 @@ def faults_of(document, expected):
     before, mark, after = document.partition(MARK)
     path, at = json.JSONDecoder().raw_decode(expected)
     places = [len(before.encode())] if mark else range(len(document.encode()) + 1)
-    return before + after, [compact({"fault": {"path": path, "offset": it, "expected": expected[at + 1:]}}) for it in places]
+    parts = dict(zip(("expected", "clause", "message"), expected[at + 1:].split("; ")))
+    return before + after, [compact({"fault": {"path": path, "offset": it, **parts}}) for it in places]
 
 
 def is_in(expected, told, is_table=False):

@@ -25,14 +25,19 @@ class Error(Exception):
 
 
 class Fault(Error):
-    """A document of commands that can't be read: `path`, `offset` and what was `expected` there."""
+    """A document of commands that can't be read: `path`, `offset` and what was `expected` there; of a graph that isn't valid
+    also the `clause` that it breaks, and the `message` says what is wrong with the thing there."""
 
-    def __init__(self, path: Path, offset: int, expected: str):
-        super().__init__(path, offset, expected)
+    def __init__(
+        self, path: Path, offset: int, expected: str, clause: Optional[str] = None, message: Optional[str] = None
+    ):
+        super().__init__(path, offset, expected, clause, message)
         self.path, self.offset, self.expected = path, offset, expected
+        self.clause, self.message = clause, message
 
     def __str__(self) -> str:
-        return f"expected {self.expected} at byte {self.offset}, at {path_text(self.path)}"
+        reason = f": {self.message}" if self.message else ""
+        return f"expected {self.expected} at byte {self.offset}, at {path_text(self.path)}{reason}"
 
 
 class NotUnderstood(Error):

@@ -58,7 +58,7 @@ clause_text clause.Known = codes "is of an unknown kind"
 clause_text clause.OwnersListed =
     codes "has an owner that doesn't list it under its name, or a name without an owner"
 clause_text clause.OwnersOwnTypes = codes "is no type of that name that the interface owns"
-clause_text clause.OwnersFunctions = codes "is a function of another name"
+clause_text clause.OwnersFunctions = codes "stands under another name"
 clause_text clause.ReferencesAliases =
     codes "is an alias of what is neither a named type of its owner nor one of an interface with a name"
 clause_text clause.ReferencesUnnamed = codes "has no name, and is an alias or a resource"
@@ -94,7 +94,7 @@ place_text (place.Interface i) = codes "interface " ++ decimal i
 place_text (place.World i) = codes "world " ++ decimal i
 place_text (place.Type_ i) = codes "type " ++ decimal i
 place_text (place.InterfaceType i k) =
-    codes "type " ++ (decimal k ++ (codes " of interface " ++ decimal i))
+    codes "entry " ++ (decimal k ++ (codes " among the types of interface " ++ decimal i))
 place_text (place.Function i k) =
     codes "function " ++ (decimal k ++ (codes " of interface " ++ decimal i))
 place_text (place.Import i k) =

@@ -135,7 +135,7 @@ impl GraphClause {
             GraphClause::Known => "is of an unknown kind",
             GraphClause::OwnersListed => "has an owner that doesn't list it under its name, or a name without an owner",
             GraphClause::OwnersOwnTypes => "is no type of that name that the interface owns",
-            GraphClause::OwnersFunctions => "is a function of another name",
+            GraphClause::OwnersFunctions => "stands under another name",
             GraphClause::ReferencesAliases => "is an alias of what is neither a named type of its owner nor one of an interface with a name",
             GraphClause::ReferencesUnnamed => "has no name, and is an alias or a resource",
             GraphClause::TypesThere => "refers to a type that isn't there",

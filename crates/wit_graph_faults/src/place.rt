@@ -61,7 +61,7 @@ impl fmt::Display for GraphPlace {
             }
             GraphPlace::InterfaceType(id, index) => {
                 let id = id.index();
-                write!(f, "type {index} of interface {id}")
+                write!(f, "entry {index} among the types of interface {id}")
             }
             GraphPlace::Function(id, index) => {
                 let id = id.index();

@@ -4,6 +4,7 @@ ghost use Rattle.wit_json_reading.specs.Reading.{Reading, Reads, instead_of, und
 ghost use Rattle.wit_json_reading.specs.declared.fault.Step.TheVariants.{Item, Member};
 
 use std::alloc::{AllocError, Global};
+use wit_graph_faults::GraphFault;
 use wit_values::{Items, Text};
 
 /// A step from a value to one in it.
@@ -76,8 +77,8 @@ pub enum Expected {
     NewName,
     /// As many details as there are things, under the same names and in the same order.
     Details,
-    /// A valid graph.
-    ValidGraph,
+    /// A valid graph; this is why it isn't one.
+    ValidGraph(GraphFault),
 }
 
 /// Where a JSON value isn't as it is read, and what was to stand there.

@@ -40,7 +40,7 @@ impl fmt::Display for Expected {
             Expected::FunctionPlace => "where a function stands",
             Expected::NewName => "a name that no package before it has",
             Expected::Details => "details of the same things in the same order",
-            Expected::ValidGraph => "a valid graph",
+            Expected::ValidGraph(_) => "a valid graph",
         };
         f.write_str(text)
     }
