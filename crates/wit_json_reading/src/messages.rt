@@ -67,7 +67,11 @@ impl fmt::Display for Fault {
             write!(f, "{step}")?;
         }
         let expected = self.expected;
-        write!(f, ": expected {expected}")
+        write!(f, ": expected {expected}")?;
+        match expected {
+            Expected::ValidGraph(reason) => write!(f, ", but {reason}"),
+            _ => Ok(()),
+        }
     }
 }
 
