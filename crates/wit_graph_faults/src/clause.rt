@@ -124,8 +124,10 @@ impl GraphClause {
         match self {
             GraphClause::PackageNamesOwn => "names a package that isn't there or has another name",
             GraphClause::PackageNamesListed => "isn't listed under its name",
-            GraphClause::TablesInterfacesListed => "has no package, or isn't in the table of its package under its name",
-            GraphClause::TablesWorldsListed => "has no package, or isn't in the table of its package under its name",
+            GraphClause::TablesInterfacesListed =>
+                "has no package, or isn't in the table of its package under its name",
+            GraphClause::TablesWorldsListed =>
+                "has no package, or isn't in the table of its package under its name",
             GraphClause::TablesInterfaces => "is no interface of that name in that package",
             GraphClause::TablesWorlds => "is no world of that name in that package",
             GraphClause::NamesNamespaces => "has a namespace that is no kebab name",
@@ -133,20 +135,26 @@ impl GraphClause {
             GraphClause::NamesVersions => "has a version that isn't one of SemVer 2.0.0",
             GraphClause::NamesInterfaces => "has a name that is no kebab name",
             GraphClause::Known => "is of an unknown kind",
-            GraphClause::OwnersListed => "has an owner that doesn't list it under its name, or a name without an owner",
+            GraphClause::OwnersListed =>
+                "has an owner that doesn't list it under its name, or a name without an owner",
             GraphClause::OwnersOwnTypes => "is no type of that name that the interface owns",
             GraphClause::OwnersFunctions => "stands under another name",
-            GraphClause::ReferencesAliases => "is an alias of what is neither a named type of its owner nor one of an interface with a name",
+            GraphClause::ReferencesAliases =>
+                "is an alias of what is neither a named type of its owner nor one of an interface with a name",
             GraphClause::ReferencesUnnamed => "has no name, and is an alias or a resource",
             GraphClause::TypesThere => "refers to a type that isn't there",
             GraphClause::Types => "refers to itself, through whatever others",
             GraphClause::Uses => "uses itself, through whatever others",
-            GraphClause::ReferencesOwnTypes => "refers to a type of another owner, other than as an alias",
-            GraphClause::ReferencesOwnFunctions => "refers to a type that the interface doesn't own, or that isn't there",
+            GraphClause::ReferencesOwnTypes =>
+                "refers to a type of another owner, other than as an alias",
+            GraphClause::ReferencesOwnFunctions =>
+                "refers to a type that the interface doesn't own, or that isn't there",
             GraphClause::WorldsImports => "may not stand under its key",
             GraphClause::WorldsExports => "may not stand under its key",
-            GraphClause::WorldsImportedFunctions => "refers to a type that the world doesn't own, or that isn't there",
-            GraphClause::WorldsExportedFunctions => "refers to a type that the world doesn't own, or that isn't there",
+            GraphClause::WorldsImportedFunctions =>
+                "refers to a type that the world doesn't own, or that isn't there",
+            GraphClause::WorldsExportedFunctions =>
+                "refers to a type that the world doesn't own, or that isn't there",
             GraphClause::WorldsOnce => "has no name and stands in two places of worlds",
             GraphClause::WorldsOwnImports => "is an interface without a name of another package",
             GraphClause::WorldsOwnExports => "is an interface without a name of another package",

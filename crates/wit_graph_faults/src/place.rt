@@ -34,7 +34,10 @@ impl fmt::Display for GraphPlace {
 
     fn fmt<W: fmt::Write>(&self, f: &mut fmt::Formatter<W>) -> fmt::Result {
         match self {
-            GraphPlace::PackageName(index) => write!(f, "entry {index} among the names of packages"),
+            GraphPlace::PackageName(index) => write!(
+                f,
+                "entry {index} among the names of packages"
+            ),
             GraphPlace::Package(id) => {
                 let id = id.index();
                 write!(f, "package {id}")

@@ -45,7 +45,11 @@ fn first_fault(alloc: Global, graph: &Graph) -> ResolveResult<Option<GraphFault>
 }
 
 /// The first thing that breaks a clause, of a graph that keeps those before it.
-fn find_place(alloc: Global, graph: &Graph, clause: GraphClause) -> ResolveResult<Option<GraphPlace>>
+fn find_place(
+    alloc: Global,
+    graph: &Graph,
+    clause: GraphClause,
+) -> ResolveResult<Option<GraphPlace>>
     requires { KeepsBefore graph.now clause }
     ensures found { IfOk result (λ found. Tells graph.now clause found) }
     ensures memory { IfErr result (λ e. e ≡ OutOfMemory) }
@@ -73,8 +77,9 @@ fn find_place(alloc: Global, graph: &Graph, clause: GraphClause) -> ResolveResul
         GraphClause::Types => Ok(cycles::types(alloc, types)?),
         GraphClause::Uses => Ok(cycles::uses(alloc, types, interfaces)?),
         GraphClause::ReferencesOwnTypes => Ok(shared::refers_to_own(alloc, types)?),
-        GraphClause::ReferencesOwnFunctions =>
-            Ok(shared::functions_use_own(alloc, types, interfaces)?),
+        GraphClause::ReferencesOwnFunctions => Ok(shared::functions_use_own(
+            alloc, types, interfaces,
+        )?),
         GraphClause::WorldsImports => Ok(shared::imports(interfaces, types, worlds)),
         GraphClause::WorldsExports => Ok(shared::exports(interfaces, worlds)),
         GraphClause::WorldsImportedFunctions => Ok(shared::imports_use_own(alloc, types, worlds)?),

@@ -8,9 +8,7 @@ ghost use Rattle.wit_names.specs.declared.package_name.PackageName.{PackageName}
 ghost use Rattle.wit_shape.specs.First.{FindsFirst, FindsWithin};
 
 use crate::place::GraphPlace;
-use wit_data::{
-    Interface, InterfaceId, Names, PackageId, PackageName, Table, World, WorldId,
-};
+use wit_data::{Interface, InterfaceId, Names, PackageId, PackageName, Table, World, WorldId};
 use wit_graph_data::Package;
 use wit_validity::package_names::{has_this_name, names_package};
 use wit_validity::tables::{is_in_table, is_interface_of, is_world_in_table, is_world_of};

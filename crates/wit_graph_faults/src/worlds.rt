@@ -69,9 +69,7 @@ fn entry_of_another(
 pub(crate) fn includes(worlds: &[World]) -> Option<GraphPlace>
     ensures { FindsFirst place.World (λ _ (world : World). world.includes ≡ []) worlds.now result }
 {
-    let index = worlds
-        .iter()
-        .position(|world| !world.includes.is_empty())?;
+    let index = worlds.iter().position(|world| !world.includes.is_empty())?;
     Some(GraphPlace::World(WorldId::from_index(index)))
 }
 

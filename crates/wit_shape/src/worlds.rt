@@ -31,11 +31,7 @@ pub fn all_have_imports(interfaces: &[Interface], types: &[TypeDef], worlds: &[W
 }
 
 /// The first import that may not stand under its key.
-pub fn imports(
-    interfaces: &[Interface],
-    types: &[TypeDef],
-    worlds: &[World],
-) -> Option<ShapePlace>
+pub fn imports(interfaces: &[Interface], types: &[TypeDef], worlds: &[World]) -> Option<ShapePlace>
     ensures { FindsWithin place.Import
         (λ w (world : World) (e : Entry). IsImport interfaces.now types.now w e.0 e.1)
         (λ (world : World). world.imports) worlds.now result }

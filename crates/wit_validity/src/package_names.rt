@@ -59,7 +59,11 @@ fn are_named(packages: &[Package], names: &Table<PackageName, PackageId>) -> boo
 }
 
 /// Whether the names have a package under a name.
-pub fn names_package(names: &Table<PackageName, PackageId>, name: &PackageName, index: usize) -> bool
+pub fn names_package(
+    names: &Table<PackageName, PackageId>,
+    name: &PackageName,
+    index: usize,
+) -> bool
     ensures { IsTrue result ↔ Contains names.now (name.now, index) }
 {
     names.keys_differ();

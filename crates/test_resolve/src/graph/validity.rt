@@ -1,8 +1,8 @@
 //! A valid graph, and for each clause of validity a graph that breaks it. That no key of a table comes twice
 //! can't be broken, since a table doesn't take a key twice.
 use crate::fixtures::{
-    assert_text, function, interface, interface_key, interface_owner, label, one, package_name, string, type_at,
-    type_def, world,
+    assert_text, function, interface, interface_key, interface_owner, label, one, package_name,
+    string, type_at, type_def, world,
 };
 use indexmap::IndexMap;
 use std::alloc::Global;
@@ -163,14 +163,8 @@ const BREACHES: [(Breach, &'static str); 35] = [
         Breach::UnnamedOfOtherExported,
         "export 1 of world 0 is an interface without a name of another package",
     ),
-    (
-        Breach::Includes,
-        "world 0 has includes",
-    ),
-    (
-        Breach::KindUnknown,
-        "type 5 is of an unknown kind",
-    ),
+    (Breach::Includes, "world 0 has includes"),
+    (Breach::KindUnknown, "type 5 is of an unknown kind"),
     (
         Breach::InterfaceUsesItself,
         "interface 4 uses itself, through whatever others",
@@ -183,10 +177,7 @@ const BREACHES: [(Breach, &'static str); 35] = [
         Breach::PackageDependsOnItself,
         "package 1 depends on itself, through whatever others",
     ),
-    (
-        Breach::UserBeforeUsed,
-        "world 0 isn't its own elaboration",
-    ),
+    (Breach::UserBeforeUsed, "world 0 isn't its own elaboration"),
     (
         Breach::TypeNotThere,
         "type 1 refers to a type that isn't there",
