@@ -4,7 +4,7 @@ use Rattle.std.proofs.lemmas.Option.{get_or_from_slice_get, slice_get_within}
 use Rattle.wit_elaboration.specs.Valid.{IsValid}
 use Rattle.wit_graph_data.specs.declared.graph.Graph.{Graph}
 use Rattle.wit_graph_faults.proofs.Ranges.{references_there}
-use Rattle.wit_graph_faults.specs.Faults.{Holds, IsBefore, IsFirstFault, KeepsBefore, Tells, clauses}
+use Rattle.wit_graph_faults.specs.Faults.{IsKept, IsAskedBefore, IsGraphFault, IsValidBefore, FindsBreach, graph_clauses}
 use Rattle.wit_graph_faults.specs.steps.Keys.{KeysDiffer}
 use Rattle.wit_graph_faults.specs.declared.clause.GraphClause.{GraphClause}
 use Rattle.wit_graph_faults.specs.declared.place.GraphPlace.{GraphPlace}
@@ -54,11 +54,11 @@ numbered_from n [] are i d within = absurd (omega arith)
 numbered_from n (c ∷ cs) are zero d within = let same : n ≡ n + 0 = omega arith in are.0 ∙ same
 numbered_from n (c ∷ cs) are (suc i) d within = let more = numbered_from (n + 1) cs are.1 i d (omega arith) in omega arith
 
-numbered : (i : ℕ) (d : GraphClause) → i < 31 → number (get_or clauses i d) ≡ i
-numbered i d within = let is = numbered_from 0 clauses (refl, (refl, (refl, (refl, (refl, (refl, (refl, (refl, (refl, (refl, (refl, (refl, (refl, (refl, (refl, (refl, (refl, (refl, (refl, (refl, (refl, (refl, (refl, (refl, (refl, (refl, (refl, (refl, (refl, (refl, (refl, tt))))))))))))))))))))))))))))))) i d within in omega arith
+numbered : (i : ℕ) (d : GraphClause) → i < 31 → number (get_or graph_clauses i d) ≡ i
+numbered i d within = let is = numbered_from 0 graph_clauses (refl, (refl, (refl, (refl, (refl, (refl, (refl, (refl, (refl, (refl, (refl, (refl, (refl, (refl, (refl, (refl, (refl, (refl, (refl, (refl, (refl, (refl, (refl, (refl, (refl, (refl, (refl, (refl, (refl, (refl, (refl, tt))))))))))))))))))))))))))))))) i d within in omega arith
 
 -- each clause stands at its number
-stands : (c : GraphClause) → slice_get clauses (number c) ≡ Some c
+stands : (c : GraphClause) → slice_get graph_clauses (number c) ≡ Some c
 stands clause.PackageNamesOwn = refl
 stands clause.PackageNamesListed = refl
 stands clause.TablesInterfacesListed = refl
@@ -91,22 +91,22 @@ stands clause.WorldsIncludes = refl
 stands clause.Packages = refl
 stands clause.Canonical = refl
 
-listed : (c : GraphClause) → get_or clauses (number c) clause.Canonical ≡ c
-listed c = get_or_from_slice_get clauses (number c) c clause.Canonical (stands c)
+listed : (c : GraphClause) → get_or graph_clauses (number c) clause.Canonical ≡ c
+listed c = get_or_from_slice_get graph_clauses (number c) c clause.Canonical (stands c)
 
 -- clauses of one number are one
 same_clause : (c d : GraphClause) → number c ≡ number d → c ≡ d
-same_clause c d same = sym (listed c) ∙ ap (λ n. get_or clauses n clause.Canonical) same ∙ listed d
+same_clause c d same = sym (listed c) ∙ ap (λ n. get_or graph_clauses n clause.Canonical) same ∙ listed d
 
 -- a clause that stands at a place has its number
-numbered_at : (c : GraphClause) (i : ℕ) → slice_get clauses i ≡ Some c → number c ≡ i
+numbered_at : (c : GraphClause) (i : ℕ) → slice_get graph_clauses i ≡ Some c → number c ≡ i
 numbered_at c i at =
-    let within : i < 31 = slice_get_within clauses i c at in
-    let here : get_or clauses i c ≡ c = get_or_from_slice_get clauses i c c at in
+    let within : i < 31 = slice_get_within graph_clauses i c at in
+    let here : get_or graph_clauses i c ≡ c = get_or_from_slice_get graph_clauses i c c at in
     ap number (sym here) ∙ numbered i c within
 
 -- one that stands before another has the smaller number
-pub less_before : (a b : GraphClause) → IsBefore a b → number a < number b
+pub less_before : (a b : GraphClause) → IsAskedBefore a b → number a < number b
 less_before a b before =
     let first = numbered_at a before.0 before.2.1 in
     let second = numbered_at b before.1 before.2.2 in
@@ -114,41 +114,41 @@ less_before a b before =
     omega arith
 
 -- so who keeps those of a smaller number keeps those before it
-pub keeps_before : (g : Graph) (c : GraphClause) → ((other : GraphClause) → number other < number c → Holds g other) → KeepsBefore g c
+pub keeps_before : (g : Graph) (c : GraphClause) → ((other : GraphClause) → number other < number c → IsKept g other) → IsValidBefore g c
 keeps_before g c keeps other before = keeps other (less_before other c before)
 
 -- of two clauses one stands before the other, or they are one
-pub before_or_same : (a b : GraphClause) → IsBefore a b ⊎ (IsBefore b a ⊎ (a ≡ b))
+pub before_or_same : (a b : GraphClause) → IsAskedBefore a b ⊎ (IsAskedBefore b a ⊎ (a ≡ b))
 before_or_same a b = by (less_or (number a) (number b))
   where
     less_or : (m n : ℕ) → (m < n) ⊎ ((n < m) ⊎ (m ≡ n))
     less_or m n = grind arith
 
-    by : (number a < number b) ⊎ ((number b < number a) ⊎ (number a ≡ number b)) → IsBefore a b ⊎ (IsBefore b a ⊎ (a ≡ b))
+    by : (number a < number b) ⊎ ((number b < number a) ⊎ (number a ≡ number b)) → IsAskedBefore a b ⊎ (IsAskedBefore b a ⊎ (a ≡ b))
     by (inl less) = inl (number a, number b, (less, stands a, stands b))
     by (inr (inl more)) = inr (inl (number b, number a, (more, stands b, stands a)))
     by (inr (inr same)) = inr (inr (same_clause a b same))
 
 -- ---- one clause after another
-module _ (g : Graph) (i : ℕ) (d : GraphClause) (within : i < 31) (keeps : (other : GraphClause) → number other < i → Holds g other) where
-  pub before : KeepsBefore g (get_or clauses i d)
-  before other stands_before = keeps other (subst (λ n. number other < n) (numbered i d within) (less_before other (get_or clauses i d) stands_before))
+module _ (g : Graph) (i : ℕ) (d : GraphClause) (within : i < 31) (keeps : (other : GraphClause) → number other < i → IsKept g other) where
+  pub before : IsValidBefore g (get_or graph_clauses i d)
+  before other stands_before = keeps other (subst (λ n. number other < n) (numbered i d within) (less_before other (get_or graph_clauses i d) stands_before))
 
-  pub first : (found : Option GraphPlace) (at : GraphPlace) → Tells g (get_or clauses i d) found → found ≡ Some at → IsFirstFault g (record { clause = get_or clauses i d; place = at })
-  first found at told is = record { before = before; breaks = subst (Tells g (get_or clauses i d)) is told }
+  pub first : (found : Option GraphPlace) (at : GraphPlace) → FindsBreach g (get_or graph_clauses i d) found → found ≡ Some at → IsGraphFault g (record { clause = get_or graph_clauses i d; place = at })
+  first found at told is = record { before = before; breaks = subst (FindsBreach g (get_or graph_clauses i d)) is told }
 
-  pub one_more : (found : Option GraphPlace) → Tells g (get_or clauses i d) found → found ≡ None → (other : GraphClause) → number other < i + 1 → Holds g other
+  pub one_more : (found : Option GraphPlace) → FindsBreach g (get_or graph_clauses i d) found → found ≡ None → (other : GraphClause) → number other < i + 1 → IsKept g other
   one_more found told is other less =
       elim (earlier_or (number other) i less) [
         | inl earlier ↦ keeps other earlier
-        | inr same ↦ subst (Holds g) (same_clause (get_or clauses i d) other (numbered i d within ∙ sym same)) (subst (Tells g (get_or clauses i d)) is told)
+        | inr same ↦ subst (IsKept g) (same_clause (get_or graph_clauses i d) other (numbered i d within ∙ sym same)) (subst (FindsBreach g (get_or graph_clauses i d)) is told)
       ]
     where
       earlier_or : (a b : ℕ) → a < b + 1 → (a < b) ⊎ (a ≡ b)
       earlier_or a b below = grind arith
 
 -- a graph that keeps them all is valid
-pub valid : (g : Graph) → KeysDiffer g → ((c : GraphClause) → number c < 31 → Holds g c) → IsValid g
+pub valid : (g : Graph) → KeysDiffer g → ((c : GraphClause) → number c < 31 → IsKept g c) → IsValid g
 valid g keys holds = record {
   well_formed = record {
     package_names = record { own_name = holds clause.PackageNamesOwn (lit< tt); listed = holds clause.PackageNamesListed (lit< tt); distinct = keys.package_names };
@@ -198,7 +198,7 @@ valid g keys holds = record {
 }
 
 -- and a valid graph keeps each
-pub keeps : (g : Graph) → IsValid g → (c : GraphClause) → Holds g c
+pub keeps : (g : Graph) → IsValid g → (c : GraphClause) → IsKept g c
 keeps g valid clause.PackageNamesOwn = valid.well_formed.package_names.own_name
 keeps g valid clause.PackageNamesListed = valid.well_formed.package_names.listed
 keeps g valid clause.TablesInterfacesListed = valid.well_formed.tables.interfaces_listed

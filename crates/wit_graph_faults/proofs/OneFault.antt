@@ -15,7 +15,7 @@ use Rattle.wit_shape.specs.facts.FirstFacts.{first_fails, first_same, id_fails, 
 use Rattle.wit_shape.specs.facts.IdFacts.{none_again}
 use Rattle.wit_shape.specs.facts.Prefixes.{on_cycle_fails, on_cycle_same}
 use Rattle.wit_graph_faults.proofs.Clauses.{before_or_same, keeps}
-use Rattle.wit_graph_faults.specs.Faults.{BreaksAt, Holds, IsBefore, IsFirstFault}
+use Rattle.wit_graph_faults.specs.Faults.{IsBrokenAt, IsKept, IsAskedBefore, IsGraphFault}
 use Rattle.wit_graph_faults.specs.declared.clause.GraphClause.{GraphClause}
 use Rattle.wit_graph_faults.specs.declared.fault.GraphFault.{GraphFault}
 use Rattle.wit_graph_faults.specs.declared.place.GraphPlace.{GraphPlace}
@@ -23,7 +23,7 @@ use Rattle.wit_graph_faults.specs.declared.clause.GraphClause.TheVariants as cla
 use Rattle.wit_graph_faults.specs.declared.place.GraphPlace.TheVariants as place
 
 -- a clause that is broken somewhere doesn't hold
-fails : (g : Graph) (c : GraphClause) (at : GraphPlace) → BreaksAt g c at → Holds g c → ⊥
+fails : (g : Graph) (c : GraphClause) (at : GraphPlace) → IsBrokenAt g c at → IsKept g c → ⊥
 fails g clause.PackageNamesOwn at is holds = first_fails is holds
 fails g clause.PackageNamesListed at is holds = first_fails is holds
 fails g clause.TablesInterfacesListed at is holds = first_fails is holds
@@ -57,7 +57,7 @@ fails g clause.Packages at is holds = on_cycle_fails (package_uses g.types g.int
 fails g clause.Canonical at is holds = first_fails is holds
 
 -- it is broken at one place
-same_place : (g : Graph) (c : GraphClause) (a b : GraphPlace) → BreaksAt g c a → BreaksAt g c b → a ≡ b
+same_place : (g : Graph) (c : GraphClause) (a b : GraphPlace) → IsBrokenAt g c a → IsBrokenAt g c b → a ≡ b
 same_place g clause.PackageNamesOwn a b one other = first_same one other
 same_place g clause.PackageNamesListed a b one other = first_same one other
 same_place g clause.TablesInterfacesListed a b one other = first_same one other
@@ -94,16 +94,16 @@ abbrev fault_of : GraphClause → GraphPlace → GraphFault
 fault_of c at = record { clause = c; place = at }
 
 module _ (g : Graph) where
-  none_before : (f h : GraphFault) → IsFirstFault g f → IsFirstFault g h → IsBefore f.clause h.clause → ⊥
+  none_before : (f h : GraphFault) → IsGraphFault g f → IsGraphFault g h → IsAskedBefore f.clause h.clause → ⊥
   none_before f h one other before = fails g f.clause f.place one.breaks (other.before f.clause before)
 
-  at_most_one : (f h : GraphFault) → IsFirstFault g f → IsFirstFault g h → f ≡ h
+  at_most_one : (f h : GraphFault) → IsGraphFault g f → IsGraphFault g h → f ≡ h
   at_most_one f h one other =
       let clause_is : f.clause ≡ h.clause = only_same (before_or_same f.clause h.clause) in
-      let place_is : f.place ≡ h.place = same_place g h.clause f.place h.place (subst (λ (c : GraphClause). BreaksAt g c f.place) clause_is one.breaks) other.breaks in
+      let place_is : f.place ≡ h.place = same_place g h.clause f.place h.place (subst (λ (c : GraphClause). IsBrokenAt g c f.place) clause_is one.breaks) other.breaks in
       both clause_is place_is
     where
-      only_same : IsBefore f.clause h.clause ⊎ (IsBefore h.clause f.clause ⊎ (f.clause ≡ h.clause)) → f.clause ≡ h.clause
+      only_same : IsAskedBefore f.clause h.clause ⊎ (IsAskedBefore h.clause f.clause ⊎ (f.clause ≡ h.clause)) → f.clause ≡ h.clause
       only_same (inl before) = absurd (none_before f h one other before)
       only_same (inr (inl behind)) = absurd (none_before h f other one behind)
       only_same (inr (inr same)) = same
@@ -111,11 +111,11 @@ module _ (g : Graph) where
       both : {c d : GraphClause} {a b : GraphPlace} → c ≡ d → a ≡ b → fault_of c a ≡ fault_of d b
       both {c} {d} {a} clauses_are places_are = ap (λ (e : GraphClause). fault_of e a) clauses_are ∙ ap (fault_of d) places_are
 
-  pub not_valid : (f : GraphFault) → IsFirstFault g f → IsValid g → ⊥
+  pub not_valid : (f : GraphFault) → IsGraphFault g f → IsValid g → ⊥
   not_valid f first valid = fails g f.clause f.place first.breaks (keeps g valid f.clause)
 
   -- none is told exactly where the graph is valid
-  none_is : (found : Option GraphFault) → Finds (IsValid g) (IsFirstFault g) found → IsNone found ↔ IsValid g
+  none_is : (found : Option GraphFault) → Finds (IsValid g) (IsGraphFault g) found → IsNone found ↔ IsValid g
   none_is None valid = (λ _. valid, λ _. refl)
   none_is (Some f) first = (λ none. absurd (some_none none), λ valid. absurd (not_valid f first valid))
     where
@@ -123,21 +123,21 @@ module _ (g : Graph) where
       some_none none = cc
 
   -- and a fault exactly where it is the first
-  some_is : (found : Option GraphFault) → Finds (IsValid g) (IsFirstFault g) found → (f : GraphFault) → (found ≡ Some f) ↔ IsFirstFault g f
+  some_is : (found : Option GraphFault) → Finds (IsValid g) (IsGraphFault g) found → (f : GraphFault) → (found ≡ Some f) ↔ IsGraphFault g f
   some_is None valid f = (λ is. absurd (none_some is), λ first. absurd (not_valid f first valid))
     where
       none_some : None ≡ Some f → ⊥
       none_some is = cc
-  some_is (Some h) first f = (λ is. subst (IsFirstFault g) (inside is) first, λ other. ap (λ (k : GraphFault). Some k) (at_most_one h f first other))
+  some_is (Some h) first f = (λ is. subst (IsGraphFault g) (inside is) first, λ other. ap (λ (k : GraphFault). Some k) (at_most_one h f first other))
     where
       inside : Some h ≡ Some f → h ≡ f
       inside is = cc
 
   -- the same of a call that may be refused
-  pub none_told : {E : Type 0} (r : Result (Option GraphFault) E) → IfOk r (λ found. Finds (IsValid g) (IsFirstFault g) found) → IfOk r (λ found. IsNone found ↔ IsValid g)
+  pub none_told : {E : Type 0} (r : Result (Option GraphFault) E) → IfOk r (λ found. Finds (IsValid g) (IsGraphFault g) found) → IfOk r (λ found. IsNone found ↔ IsValid g)
   none_told (Ok found) told = none_is found told
   none_told (Err e) told = tt
 
-  pub some_told : {E : Type 0} (r : Result (Option GraphFault) E) → IfOk r (λ found. Finds (IsValid g) (IsFirstFault g) found) → IfOk r (λ found. (f : GraphFault) → (found ≡ Some f) ↔ IsFirstFault g f)
+  pub some_told : {E : Type 0} (r : Result (Option GraphFault) E) → IfOk r (λ found. Finds (IsValid g) (IsGraphFault g) found) → IfOk r (λ found. (f : GraphFault) → (found ≡ Some f) ↔ IsGraphFault g f)
   some_told (Ok found) told = some_is found told
   some_told (Err e) told = tt

@@ -105,29 +105,30 @@ module _ (packages : List Package) (interfaces : List Interface) (tables : EachA
               unless true h = cc
               unless false h = cc
 
-  pub packages_in_range : (types : List TypeDef) (worlds : List World) → IsInRange (package_uses types interfaces worlds packages)
-  packages_in_range types worlds p d k below = by (slice_get (enumerate_from 0 packages) p) refl
-    where
-      abbrev rows : List (List ℕ)
-      rows = package_uses types interfaces worlds packages
+  module _ (types : List TypeDef) (worlds : List World) where
+    abbrev rows : List (List ℕ)
+    rows = package_uses types interfaces worlds packages
 
-      abbrev row_of : ℕ × Package → List ℕ
-      row_of e = filter_map (other_package interfaces e.0) (package_interfaces types interfaces worlds e.1)
+    abbrev row_of : ℕ × Package → List ℕ
+    row_of e = filter_map (other_package interfaces e.0) (package_interfaces types interfaces worlds e.1)
 
-      row_is : slice_get rows p ≡ option_map row_of (slice_get (enumerate_from 0 packages) p)
-      row_is = slice_get-map row_of (enumerate_from 0 packages) p
+    row_is : (p : ℕ) → slice_get rows p ≡ option_map row_of (slice_get (enumerate_from 0 packages) p)
+    row_is p = slice_get-map row_of (enumerate_from 0 packages) p
 
-      by : (o : Option (ℕ × Package)) → slice_get (enumerate_from 0 packages) p ≡ o → get_or (direct rows p) k d < length rows
-      by None at =
-          let none : slice_get rows p ≡ None = row_is ∙ ap (option_map row_of) at in
-          let empty : direct rows p ≡ [] = get_or_past rows p [] (past_end rows p none) in
-          let nothing : length (direct rows p) ≡ 0 = ap length empty in
-          absurd (omega arith)
-      by (Some e) at =
-          let row : direct rows p ≡ row_of e = get_or_from_slice_get rows p (row_of e) [] (row_is ∙ ap (option_map row_of) at) in
-          let from = given_by (other_package interfaces e.0) (package_interfaces types interfaces worlds e.1) (get_or (direct rows p) k d)
-          (subst (λ (l : List ℕ). Contains l (get_or (direct rows p) k d)) row (Contains-get_or (direct rows p) k d below)) in
-          let there = other_there e.0 from.0 (get_or (direct rows p) k d) from.1 in
-          let long = length-map (enumerate_from 0 packages) row_of in
-          let same = length-enumerate_from 0 packages in
-          omega arith
+    pub packages_in_range : IsInRange rows
+    packages_in_range p d k below = by (slice_get (enumerate_from 0 packages) p) refl
+      where
+        by : (o : Option (ℕ × Package)) → slice_get (enumerate_from 0 packages) p ≡ o → get_or (direct rows p) k d < length rows
+        by None at =
+            let none : slice_get rows p ≡ None = row_is p ∙ ap (option_map row_of) at in
+            let empty : direct rows p ≡ [] = get_or_past rows p [] (past_end rows p none) in
+            let nothing : length (direct rows p) ≡ 0 = ap length empty in
+            absurd (omega arith)
+        by (Some e) at =
+            let row : direct rows p ≡ row_of e = get_or_from_slice_get rows p (row_of e) [] (row_is p ∙ ap (option_map row_of) at) in
+            let from = given_by (other_package interfaces e.0) (package_interfaces types interfaces worlds e.1) (get_or (direct rows p) k d)
+            (subst (λ (l : List ℕ). Contains l (get_or (direct rows p) k d)) row (Contains-get_or (direct rows p) k d below)) in
+            let there = other_there e.0 from.0 (get_or (direct rows p) k d) from.1 in
+            let long = length-map (enumerate_from 0 packages) row_of in
+            let same = length-enumerate_from 0 packages in
+            omega arith

@@ -31,8 +31,8 @@ use Rattle.wit_graph_faults.specs.declared.clause.GraphClause.TheVariants as cla
 use Rattle.wit_graph_faults.specs.declared.place.GraphPlace.TheVariants as place
 
 -- the clauses, in the order in which they are asked
-abbrev pub clauses : List GraphClause
-clauses =
+abbrev pub graph_clauses : List GraphClause
+graph_clauses =
     clause.PackageNamesOwn ∷ clause.PackageNamesListed
     ∷ clause.TablesInterfacesListed ∷ clause.TablesWorldsListed
     ∷ clause.TablesInterfaces ∷ clause.TablesWorlds
@@ -47,17 +47,18 @@ clauses =
     ∷ clause.WorldsIncludes ∷ clause.Packages ∷ clause.Canonical ∷ []
 
 -- a stands before b among them
-abbrev pub IsBefore : GraphClause → GraphClause → Type 0
-IsBefore a b =
-    (i j : ℕ) × ((i < j) × (slice_get clauses i ≡ Some a) × (slice_get clauses j ≡ Some b))
+abbrev pub IsAskedBefore : GraphClause → GraphClause → Type 0
+IsAskedBefore a b =
+    (i j : ℕ)
+    × ((i < j) × (slice_get graph_clauses i ≡ Some a) × (slice_get graph_clauses j ≡ Some b))
 
 -- nothing where no node leads back to itself, else the place of the first with which those up to it do
 abbrev pub FindsOnCycle : (ℕ → GraphPlace) → List (List ℕ) → Option GraphPlace → Type 0
 FindsOnCycle at uses = Finds (IsAcyclic uses) (AtFirstOnCycle at uses)
 
 -- nothing where no interface without a name stands in two places, else the first that stands in a second one
-abbrev pub FindsAgain : List Interface → List World → Option GraphPlace → Type 0
-FindsAgain interfaces worlds =
+abbrev pub FindsUnnamedAgain : List Interface → List World → Option GraphPlace → Type 0
+FindsUnnamedAgain interfaces worlds =
     Finds (StandOnce interfaces worlds)
     (AtFirstId place.Interface
     (λ i id. Contains (take i (unnamed_in_worlds interfaces worlds)) id → ⊥)
@@ -70,100 +71,101 @@ RefersToThere types def = Each (λ id. id < length types) (referred def.kind)
 -- The table of clauses. A row says what a search finds: nothing where the graph keeps the clause, which is what the
 -- field of this name of the part of `IsValid` says; else the first thing that breaks it. That types are there is a part
 -- of `no_cycles.types`. The keys of tables differ in every graph.
-abbrev pub Tells : Graph → GraphClause → Option GraphPlace → Type 0
-Tells g clause.PackageNamesOwn =
+abbrev pub FindsBreach : Graph → GraphClause → Option GraphPlace → Type 0
+FindsBreach g clause.PackageNamesOwn =
     FindsFirst place.PackageName
     (λ _ (e : PackageName × ℕ). SomeAt g.packages e.1 (λ (home : Package). home.name ≡ e.0))
     g.package_names
-Tells g clause.PackageNamesListed =
+FindsBreach g clause.PackageNamesListed =
     FindsFirst place.Package (λ p (home : Package). Contains g.package_names (home.name, p))
     g.packages
-Tells g clause.TablesInterfacesListed =
+FindsBreach g clause.TablesInterfacesListed =
     FindsFirst place.Interface (IsInTable g.packages) g.interfaces
-Tells g clause.TablesWorldsListed = FindsFirst place.World (IsWorldInTable g.packages) g.worlds
-Tells g clause.TablesInterfaces =
+FindsBreach g clause.TablesWorldsListed =
+    FindsFirst place.World (IsWorldInTable g.packages) g.worlds
+FindsBreach g clause.TablesInterfaces =
     FindsWithin place.PackageInterface
     (λ p (home : Package) (e : List ℕ × ℕ). IsInterfaceOf g.interfaces p e.0 e.1)
     (λ (home : Package). home.interfaces) g.packages
-Tells g clause.TablesWorlds =
+FindsBreach g clause.TablesWorlds =
     FindsWithin place.PackageWorld
     (λ p (home : Package) (e : List ℕ × ℕ). IsWorldOf g.worlds p e.0 e.1)
     (λ (home : Package). home.worlds) g.packages
-Tells g clause.NamesNamespaces =
+FindsBreach g clause.NamesNamespaces =
     FindsFirst place.Package (λ _ (home : Package). IsKebabName home.name.namespace) g.packages
-Tells g clause.NamesPackages =
+FindsBreach g clause.NamesPackages =
     FindsFirst place.Package (λ _ (home : Package). IsKebabName home.name.name) g.packages
-Tells g clause.NamesVersions =
+FindsBreach g clause.NamesVersions =
     FindsFirst place.Package (λ _ (home : Package). HasValidVersion home.name) g.packages
-Tells g clause.NamesInterfaces =
+FindsBreach g clause.NamesInterfaces =
     FindsFirst place.Interface
     (λ _ (interface : Interface). IfSome interface.name IsKebabName) g.interfaces
-Tells g clause.Known =
+FindsBreach g clause.Known =
     FindsFirst place.Type_ (λ _ (def : TypeDef). def.kind ≢ kind.Unknown) g.types
-Tells g clause.OwnersListed =
+FindsBreach g clause.OwnersListed =
     FindsFirst place.Type_
     (λ i (def : TypeDef). IsListed g.interfaces g.worlds i def.name def.owner) g.types
-Tells g clause.OwnersOwnTypes =
+FindsBreach g clause.OwnersOwnTypes =
     FindsWithin place.InterfaceType
     (λ f (interface : Interface) (e : List ℕ × ℕ). IsTypeOf g.types (owner.Interface f) e.0 e.1)
     (λ (interface : Interface). interface.types) g.interfaces
-Tells g clause.OwnersFunctions =
+FindsBreach g clause.OwnersFunctions =
     FindsWithin place.Function (λ _ (interface : Interface) (e : List ℕ × Function). e.1.name ≡ e.0)
     (λ (interface : Interface). interface.functions) g.interfaces
-Tells g clause.ReferencesAliases =
+FindsBreach g clause.ReferencesAliases =
     FindsFirst place.Type_ (λ _. AliasesNamed g.types g.interfaces) g.types
-Tells g clause.ReferencesUnnamed =
+FindsBreach g clause.ReferencesUnnamed =
     FindsFirst place.Type_ (λ _ (def : TypeDef). (def.name ≡ None) → IsPlain def.kind) g.types
-Tells g clause.TypesThere = FindsFirst place.Type_ (λ _. RefersToThere g.types) g.types
-Tells g clause.Types = FindsOnCycle place.Type_ (type_references g.types)
-Tells g clause.Uses = FindsOnCycle place.Interface (uses_of g.types g.interfaces)
-Tells g clause.ReferencesOwnTypes = FindsFirst place.Type_ (λ _. RefersToOwn g.types) g.types
-Tells g clause.ReferencesOwnFunctions =
+FindsBreach g clause.TypesThere = FindsFirst place.Type_ (λ _. RefersToThere g.types) g.types
+FindsBreach g clause.Types = FindsOnCycle place.Type_ (type_references g.types)
+FindsBreach g clause.Uses = FindsOnCycle place.Interface (uses_of g.types g.interfaces)
+FindsBreach g clause.ReferencesOwnTypes = FindsFirst place.Type_ (λ _. RefersToOwn g.types) g.types
+FindsBreach g clause.ReferencesOwnFunctions =
     FindsWithin place.Function
     (λ f (interface : Interface) (e : List ℕ × Function). UsesOwn g.types (owner.Interface f) e.1)
     (λ (interface : Interface). interface.functions) g.interfaces
-Tells g clause.WorldsImports =
+FindsBreach g clause.WorldsImports =
     FindsWithin place.Import
     (λ w (world : World) (e : Entry). IsImport g.interfaces g.types w e.0 e.1)
     (λ (world : World). world.imports) g.worlds
-Tells g clause.WorldsExports =
+FindsBreach g clause.WorldsExports =
     FindsWithin place.Export (λ _ (world : World) (e : Entry). IsExport g.interfaces e.0 e.1)
     (λ (world : World). world.exports) g.worlds
-Tells g clause.WorldsImportedFunctions =
+FindsBreach g clause.WorldsImportedFunctions =
     FindsWithin place.Import (λ w (world : World) (e : Entry). ItemUsesOwn g.types w e.1)
     (λ (world : World). world.imports) g.worlds
-Tells g clause.WorldsExportedFunctions =
+FindsBreach g clause.WorldsExportedFunctions =
     FindsWithin place.Export (λ w (world : World) (e : Entry). ItemUsesOwn g.types w e.1)
     (λ (world : World). world.exports) g.worlds
-Tells g clause.WorldsOnce = FindsAgain g.interfaces g.worlds
-Tells g clause.WorldsOwnImports =
+FindsBreach g clause.WorldsOnce = FindsUnnamedAgain g.interfaces g.worlds
+FindsBreach g clause.WorldsOwnImports =
     FindsWithin place.Import
     (λ _ (world : World) (e : Entry). IsOfPackage g.interfaces world.package e.1)
     (λ (world : World). world.imports) g.worlds
-Tells g clause.WorldsOwnExports =
+FindsBreach g clause.WorldsOwnExports =
     FindsWithin place.Export
     (λ _ (world : World) (e : Entry). IsOfPackage g.interfaces world.package e.1)
     (λ (world : World). world.exports) g.worlds
-Tells g clause.WorldsIncludes =
+FindsBreach g clause.WorldsIncludes =
     FindsFirst place.World (λ _ (world : World). world.includes ≡ []) g.worlds
-Tells g clause.Packages =
+FindsBreach g clause.Packages =
     FindsOnCycle place.Package (package_uses g.types g.interfaces g.worlds g.packages)
-Tells g clause.Canonical =
+FindsBreach g clause.Canonical =
     FindsFirst place.World
     (λ _ (world : World). Elaborated g.types (uses_of g.types g.interfaces) world world) g.worlds
 
 -- the graph keeps the clause, or breaks it first at this place
-abbrev pub Holds : Graph → GraphClause → Type 0
-Holds g c = Tells g c None
+abbrev pub IsKept : Graph → GraphClause → Type 0
+IsKept g c = FindsBreach g c None
 
-abbrev pub BreaksAt : Graph → GraphClause → GraphPlace → Type 0
-BreaksAt g c at = Tells g c (Some at)
+abbrev pub IsBrokenAt : Graph → GraphClause → GraphPlace → Type 0
+IsBrokenAt g c at = FindsBreach g c (Some at)
 
 -- the graph keeps each clause before this one
-abbrev pub KeepsBefore : Graph → GraphClause → Type 0
-KeepsBefore g c = (other : GraphClause) → IsBefore other c → Holds g other
+abbrev pub IsValidBefore : Graph → GraphClause → Type 0
+IsValidBefore g c = (other : GraphClause) → IsAskedBefore other c → IsKept g other
 
 -- the graph keeps each clause before that of the fault, which it breaks at the fault's place
-pub record IsFirstFault (g : Graph) (fault : GraphFault) : Type 0 where
-  pub before : KeepsBefore g fault.clause
-  pub breaks : BreaksAt g fault.clause fault.place
+pub record IsGraphFault (g : Graph) (fault : GraphFault) : Type 0 where
+  pub before : IsValidBefore g fault.clause
+  pub breaks : IsBrokenAt g fault.clause fault.place

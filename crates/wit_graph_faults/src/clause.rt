@@ -1,6 +1,6 @@
 //! The clauses of the validity of a graph.
 ghost use Rattle.std.specs.Prelude.{◌≡◌, Some};
-ghost use Rattle.wit_graph_faults.specs.FaultText.{clause_name, clause_text};
+ghost use Rattle.wit_graph_faults.specs.FaultText.{graph_clause_name, graph_clause_text};
 
 use std::fmt;
 
@@ -80,7 +80,7 @@ impl GraphClause {
 
     /// The part of validity and its field, as `tables.worlds_listed`.
     pub fn name(self) -> &'static str
-        ensures { result.now ≡ clause_name self }
+        ensures { result.now ≡ graph_clause_name self }
     {
         match self {
             GraphClause::PackageNamesOwn => "package_names.own_name",
@@ -119,7 +119,7 @@ impl GraphClause {
 
     /// What is said of the thing that breaks it.
     pub fn text(self) -> &'static str
-        ensures { result.now ≡ clause_text self }
+        ensures { result.now ≡ graph_clause_text self }
     {
         match self {
             GraphClause::PackageNamesOwn => "names a package that isn't there or has another name",
@@ -140,7 +140,7 @@ impl GraphClause {
             GraphClause::OwnersOwnTypes => "is no type of that name that the interface owns",
             GraphClause::OwnersFunctions => "stands under another name",
             GraphClause::ReferencesAliases =>
-                "is an alias of what is neither a named type of its owner nor one of an interface with a name",
+                "is an alias of no named type of its owner, and of none of a named interface",
             GraphClause::ReferencesUnnamed => "has no name, and is an alias or a resource",
             GraphClause::TypesThere => "refers to a type that isn't there",
             GraphClause::Types => "refers to itself, through whatever others",
@@ -167,7 +167,7 @@ impl GraphClause {
 
 /// What is said of the thing that breaks the clause.
 impl fmt::Display for GraphClause {
-    ghost output = { λ c. Some (clause_text c) };
+    ghost output = { λ c. Some (graph_clause_text c) };
 
     fn fmt<W: fmt::Write>(&self, f: &mut fmt::Formatter<W>) -> fmt::Result {
         f.write_str(self.text())

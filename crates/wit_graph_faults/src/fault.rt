@@ -1,6 +1,6 @@
 //! Why a graph isn't valid.
 ghost use Rattle.std.specs.Prelude.{Some};
-ghost use Rattle.wit_graph_faults.specs.FaultText.{fault_text};
+ghost use Rattle.wit_graph_faults.specs.FaultText.{graph_fault_text};
 
 use crate::clause::GraphClause;
 use crate::place::GraphPlace;
@@ -15,7 +15,7 @@ pub struct GraphFault {
 
 /// As `package 3 isn't listed under its name`.
 impl fmt::Display for GraphFault {
-    ghost output = { λ f. Some (fault_text f) };
+    ghost output = { λ f. Some (graph_fault_text f) };
 
     fn fmt<W: fmt::Write>(&self, f: &mut fmt::Formatter<W>) -> fmt::Result {
         let place = self.place;

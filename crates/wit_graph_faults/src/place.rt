@@ -1,6 +1,6 @@
 //! Places in a graph.
 ghost use Rattle.std.specs.Prelude.{Some};
-ghost use Rattle.wit_graph_faults.specs.FaultText.{place_text};
+ghost use Rattle.wit_graph_faults.specs.FaultText.{graph_place_text};
 
 use std::fmt;
 use wit_data::{InterfaceId, PackageId, TypeId, WorldId};
@@ -30,7 +30,7 @@ pub enum GraphPlace {
 
 /// In words, as `import 0 of world 2`.
 impl fmt::Display for GraphPlace {
-    ghost output = { λ p. Some (place_text p) };
+    ghost output = { λ p. Some (graph_place_text p) };
 
     fn fmt<W: fmt::Write>(&self, f: &mut fmt::Formatter<W>) -> fmt::Result {
         match self {

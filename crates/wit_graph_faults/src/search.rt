@@ -2,7 +2,7 @@
 ghost use Rattle.std.specs.Prelude.{◌≡◌, ◌↔◌, IfErr, IfOk, IsNone, Some};
 ghost use Rattle.wit_elaboration.specs.Valid.{IsValid};
 ghost use Rattle.wit_graph_data.specs.declared.error_kind.ResolveErrorKind.TheVariants.{OutOfMemory};
-ghost use Rattle.wit_graph_faults.specs.Faults.{IsFirstFault, KeepsBefore, Tells};
+ghost use Rattle.wit_graph_faults.specs.Faults.{IsGraphFault, IsValidBefore, FindsBreach};
 ghost use Rattle.wit_graph_faults.specs.declared.fault.GraphFault.{GraphFault};
 ghost use Rattle.wit_shape.specs.First.{Finds};
 
@@ -24,7 +24,7 @@ use wit_graph_data::{Graph, ResolveResult};
 pub fn find_graph_fault(alloc: Global, graph: &Graph) -> ResolveResult<Option<GraphFault>>
     ensures none { IfOk result (λ found. IsNone found ↔ IsValid graph.now) }
     ensures some { IfOk result (λ found.
-        (fault : GraphFault) → (found ≡ Some fault) ↔ IsFirstFault graph.now fault) }
+        (fault : GraphFault) → (found ≡ Some fault) ↔ IsGraphFault graph.now fault) }
     ensures memory { IfErr result (λ e. e ≡ OutOfMemory) }
 {
     first_fault(alloc, graph)
@@ -32,7 +32,8 @@ pub fn find_graph_fault(alloc: Global, graph: &Graph) -> ResolveResult<Option<Gr
 
 /// The same, clause by clause.
 fn first_fault(alloc: Global, graph: &Graph) -> ResolveResult<Option<GraphFault>>
-    ensures found { IfOk result (λ found. Finds (IsValid graph.now) (IsFirstFault graph.now) found) }
+    ensures found { IfOk result
+        (λ found. Finds (IsValid graph.now) (IsGraphFault graph.now) found) }
     ensures memory { IfErr result (λ e. e ≡ OutOfMemory) }
 {
     keys_differ(graph);
@@ -50,8 +51,8 @@ fn find_place(
     graph: &Graph,
     clause: GraphClause,
 ) -> ResolveResult<Option<GraphPlace>>
-    requires { KeepsBefore graph.now clause }
-    ensures found { IfOk result (λ found. Tells graph.now clause found) }
+    requires { IsValidBefore graph.now clause }
+    ensures found { IfOk result (λ found. FindsBreach graph.now clause found) }
     ensures memory { IfErr result (λ e. e ≡ OutOfMemory) }
 {
     let (types, interfaces) = (graph.types.as_slice(), graph.interfaces.as_slice());
@@ -89,6 +90,6 @@ fn find_place(
         GraphClause::WorldsOwnExports => Ok(worlds::own_exports(interfaces, worlds)),
         GraphClause::WorldsIncludes => Ok(worlds::includes(worlds)),
         GraphClause::Packages => Ok(cycles::packages(alloc, graph)?),
-        GraphClause::Canonical => worlds::canonical(alloc, graph),
+        GraphClause::Canonical => worlds::elaborated(alloc, graph),
     }
 }

@@ -10,7 +10,7 @@ ghost use Rattle.wit_data.specs.declared.types.TypeDef.{TypeDef};
 ghost use Rattle.wit_data.specs.declared.types.TypeOwner.TheVariants as owner;
 ghost use Rattle.wit_data.specs.declared.world.World.{World};
 ghost use Rattle.wit_digraph.specs.Relation.{IsAcyclic};
-ghost use Rattle.wit_graph_faults.specs.Faults.{FindsAgain};
+ghost use Rattle.wit_graph_faults.specs.Faults.{FindsUnnamedAgain};
 ghost use Rattle.wit_graph_faults.specs.declared.place.GraphPlace.TheVariants as place;
 ghost use Rattle.wit_graph_faults.specs.steps.Places.{graph_place};
 ghost use Rattle.wit_names.specs.UsePath.{IsKebabName};
@@ -180,7 +180,7 @@ pub(crate) fn once(
     interfaces: &[Interface],
     worlds: &[World],
 ) -> Result<Option<GraphPlace>, AllocError>
-    ensures { IfOk result (λ found. FindsAgain interfaces.now worlds.now found) }
+    ensures { IfOk result (λ found. FindsUnnamedAgain interfaces.now worlds.now found) }
 {
     Ok(in_graph(worlds::once(alloc, interfaces, worlds)?))
 }

@@ -74,7 +74,7 @@ pub(crate) fn includes(worlds: &[World]) -> Option<GraphPlace>
 }
 
 /// The first world that isn't its own elaboration.
-pub(crate) fn canonical(alloc: Global, graph: &Graph) -> ResolveResult<Option<GraphPlace>>
+pub(crate) fn elaborated(alloc: Global, graph: &Graph) -> ResolveResult<Option<GraphPlace>>
     requires acyclic { IsAcyclic (graph_uses graph.now) }
     requires listed { Each (λ (world : World).
         HasSoundEntries graph.now.types (length graph.now.interfaces) world.imports

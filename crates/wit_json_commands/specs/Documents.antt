@@ -1,7 +1,7 @@
 -- What comes out of a document.
 use Rattle.std.specs.Prelude.{◌≡◌, ◌⊎◌, ℕ, Bool, true, false, List, Option, Some, None, Ok, Err, IsUtf8}
 use Rattle.wit_elaboration.specs.Valid.{IsValid}
-use Rattle.wit_graph_faults.specs.Faults.{IsFirstFault}
+use Rattle.wit_graph_faults.specs.Faults.{IsGraphFault}
 use Rattle.wit_graph_faults.specs.declared.fault.GraphFault.{GraphFault}
 use Rattle.wit_resolve_graph.specs.State.{State, new_state}
 use Rattle.wit_json.specs.Graph.{compact}
@@ -55,7 +55,7 @@ pub record Understands (input text : List ℕ) : Type 0 where
 abbrev pub TellsInvalid : Option ResolveParts → Fault → Type 0
 TellsInvalid None fault = ⊥
 TellsInvalid (Some parts) fault =
-    (why : GraphFault) × (IsFirstFault parts.graph why × (fault ≡ invalid_fault why))
+    (why : GraphFault) × (IsGraphFault parts.graph why × (fault ≡ invalid_fault why))
 
 -- a document begins with a graph that isn't valid
 pub record BeginsInvalid (input : List ℕ) (fault : Fault) : Type 0 where

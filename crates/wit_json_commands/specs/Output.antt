@@ -5,7 +5,7 @@ use Rattle.wit_graph_data.specs.declared.features.Features.{Features}
 use Rattle.wit_graph_data.specs.declared.graph.Graph.{Graph}
 use Rattle.wit_names.specs.declared.track.TrackRule.{TrackRule}
 use Rattle.wit_sources.specs.SourceMap.{Sources}
-use Rattle.wit_graph_faults.specs.FaultText.{clause_name, fault_text}
+use Rattle.wit_graph_faults.specs.FaultText.{graph_clause_name, graph_fault_text}
 use Rattle.wit_json.specs.Values.{Member, json_of_number, json_of_text, list_of, member, object, tagged}
 use Rattle.wit_json.specs.Whole.{json_of_whole}
 use Rattle.wit_json_reading.specs.Messages.{expected_text}
@@ -35,8 +35,8 @@ json_of_path steps = list_of json_of_step (reverse steps)
 -- why a graph isn't valid: the clause that it breaks, and the thing with what is said of it
 abbrev pub reason_members : Expected → List Member
 reason_members (expected.ValidGraph why) =
-    member (codes "clause") (json_of_text (clause_name why.clause))
-    ++ member (codes "message") (json_of_text (fault_text why))
+    member (codes "clause") (json_of_text (graph_clause_name why.clause))
+    ++ member (codes "message") (json_of_text (graph_fault_text why))
 reason_members _ = []
 
 -- the path to a value, the byte at which it begins, what was expected there, and of a graph why it isn't valid

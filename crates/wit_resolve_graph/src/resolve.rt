@@ -4,7 +4,7 @@ ghost use Rattle.std.specs.List.{AllByRecursion};
 ghost use Rattle.std.specs.Option.{option_copied, option_map};
 ghost use Rattle.wit_graph_data.specs.IdText.{id_text, interface_id_at, key_text};
 ghost use Rattle.wit_elaboration.specs.Valid.{IsValid};
-ghost use Rattle.wit_graph_faults.specs.Faults.{IsFirstFault};
+ghost use Rattle.wit_graph_faults.specs.Faults.{IsGraphFault};
 ghost use Rattle.wit_graph_data.specs.declared.error_kind.ResolveErrorKind.{ResolveErrorKind};
 ghost use Rattle.wit_graph_data.specs.declared.error_kind.ResolveErrorKind.TheVariants.{OffsetOverflow, OutOfMemory};
 ghost use Rattle.wit_data.specs.Shape.{IsGroupShaped, IsShaped};
@@ -137,7 +137,7 @@ impl Resolve {
               track_rule = track_rule;
             })) }
         ensures valid { IfOk result (λ made. OnOk made (IsValid graph)) }
-        ensures fault { IfOk result (λ made. IfErr made (IsFirstFault graph)) }
+        ensures fault { IfOk result (λ made. IfErr made (IsGraphFault graph)) }
         ensures memory { IfErr result (λ kind. kind ≡ OutOfMemory) }
     {
         if let Some(fault) = find_graph_fault(alloc, &graph)? {

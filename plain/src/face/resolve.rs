@@ -53,7 +53,7 @@ impl Resolve {
     /// The same, or why the graph isn't valid.
     ///
     /// Clauses of `of_graph_or_fault`: the fault is the first clause of `IsValid` that the graph breaks, and the first thing
-    /// that breaks it (`IsFirstFault`).
+    /// that breaks it (`IsGraphFault`).
     pub fn of_graph_or_fault(
         graph: Graph,
         features: Features,

@@ -121,7 +121,7 @@ const BREACHES: [(Breach, &'static str); 35] = [
     ),
     (
         Breach::AliasOfUnnamed,
-        "type 2 is an alias of what is neither a named type of its owner nor one of an interface with a name",
+        "type 2 is an alias of no named type of its owner, and of none of a named interface",
     ),
     (
         Breach::UnnamedAlias,

@@ -6,7 +6,7 @@ ghost use Rattle.wit_json.specs.Values.{json_of_text, member};
 ghost use Rattle.wit_json.specs.steps.Members.{Adds};
 ghost use Rattle.wit_json_reading.specs.Messages.{expected_text};
 ghost use Rattle.wit_json_commands.specs.Output.{json_of_fault, json_of_output, json_of_path, json_of_place, json_of_step, reason_members};
-ghost use Rattle.wit_graph_faults.specs.FaultText.{clause_name, fault_text};
+ghost use Rattle.wit_graph_faults.specs.FaultText.{graph_clause_name, graph_fault_text};
 
 use super::answers::Response;
 use super::file_places::write_number;
@@ -94,8 +94,8 @@ fn write_reason(out: &mut JsonText, expected: Expected) -> Result<(), AllocError
 /// Writes the clause that a graph breaks, and the thing with what is said of it.
 fn write_graph_fault(out: &mut JsonText, reason: GraphFault) -> Result<(), AllocError>
     ensures { OnOk result (Adds out.old out.new
-        (member (codes "clause") (json_of_text (clause_name reason.clause))
-        ++ member (codes "message") (json_of_text (fault_text reason)))) }
+        (member (codes "clause") (json_of_text (graph_clause_name reason.clause))
+        ++ member (codes "message") (json_of_text (graph_fault_text reason)))) }
 {
     let alloc = out.allocator();
     let text = format!(in alloc; "{reason}")?;

@@ -3,7 +3,7 @@ use Rattle.wit_elaboration.specs.Elaborated.{Elaborated}
 use Rattle.wit_elaboration.specs.Elaboration.{graph_uses}
 use Rattle.wit_data.specs.facts.EachFacts.{EachBelow}
 use Rattle.wit_data.specs.declared.world.World.{World}
-use Rattle.wit_graph_faults.proofs.worlds.canonical.Given as goal
+use Rattle.wit_graph_faults.proofs.worlds.elaborated.Given as goal
 
 -- the first ones are
 abbrev pub invariant-loop-index : goal.invariant-loop-index
