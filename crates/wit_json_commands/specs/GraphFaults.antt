@@ -29,11 +29,12 @@ thing_path (place.Import w i) =
 thing_path (place.Export w i) =
     step.Member (codes "exports") ∷ step.Item w ∷ step.Member (codes "worlds") ∷ []
 
+-- the steps from the document on
+abbrev pub in_document : List Step → List Step
+in_document path =
+    (path ++ step.Member (codes "graph") ∷ []) ++ step.Member (codes "resolve") ∷ []
+
 -- that of the graph which a document begins with
 abbrev pub invalid_fault : GraphFault → Fault
 invalid_fault why =
-    record {
-      path = thing_path why.place
-          ++ (step.Member (codes "graph") ∷ step.Member (codes "resolve") ∷ []);
-      expected = expected.ValidGraph why;
-    }
+    record { path = in_document (thing_path why.place); expected = expected.ValidGraph why }

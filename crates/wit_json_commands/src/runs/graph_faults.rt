@@ -20,8 +20,7 @@ pub fn no_valid_graph(alloc: Global, reason: GraphFault) -> Result<Resolve, Read
 fn invalid_fault(alloc: Global, reason: GraphFault) -> Result<Fault, AllocError>
     ensures { IfOk result (λ fault. fault ≡ invalid_fault reason) }
 {
-    let mut path = Items::new(alloc);
-    push_thing(alloc, &mut path, reason.place)?;
+    let mut path = thing_path(alloc, reason.place)?;
     push_member(alloc, &mut path, "graph")?;
     push_member(alloc, &mut path, "resolve")?;
     Ok(Fault {
@@ -30,54 +29,58 @@ fn invalid_fault(alloc: Global, reason: GraphFault) -> Result<Fault, AllocError>
     })
 }
 
-/// Adds the steps from the graph to the thing that breaks a clause, the last one first.
-fn push_thing(alloc: Global, path: &mut Items<Step>, place: GraphPlace) -> Result<(), AllocError>
-    ensures { OnOk result (path.new ≡ path.old ++ thing_path place) }
+/// The steps from the graph to the thing that breaks a clause, the last one first.
+fn thing_path(alloc: Global, place: GraphPlace) -> Result<Items<Step>, AllocError>
+    ensures { IfOk result (λ path. path ≡ thing_path place) }
 {
     match place {
-        GraphPlace::PackageName(_) => push_member(alloc, path, "packages"),
-        GraphPlace::Package(id) => push_item(alloc, path, "packages", id.index()),
-        GraphPlace::Interface(id) => push_item(alloc, path, "interfaces", id.index()),
-        GraphPlace::World(id) => push_item(alloc, path, "worlds", id.index()),
-        GraphPlace::Type_(id) => push_item(alloc, path, "types", id.index()),
-        GraphPlace::PackageInterface(id, _) => {
-            push_member(alloc, path, "interfaces")?;
-            push_item(alloc, path, "packages", id.index())
-        }
-        GraphPlace::PackageWorld(id, _) => {
-            push_member(alloc, path, "worlds")?;
-            push_item(alloc, path, "packages", id.index())
-        }
-        GraphPlace::InterfaceType(id, _) => {
-            push_member(alloc, path, "types")?;
-            push_item(alloc, path, "interfaces", id.index())
-        }
-        GraphPlace::Function(id, _) => {
-            push_member(alloc, path, "functions")?;
-            push_item(alloc, path, "interfaces", id.index())
-        }
-        GraphPlace::Import(id, _) => {
-            push_member(alloc, path, "imports")?;
-            push_item(alloc, path, "worlds", id.index())
-        }
-        GraphPlace::Export(id, _) => {
-            push_member(alloc, path, "exports")?;
-            push_item(alloc, path, "worlds", id.index())
-        }
+        GraphPlace::PackageName(_) => list_path(alloc, "packages"),
+        GraphPlace::Package(id) => item_path(alloc, "packages", id.index()),
+        GraphPlace::PackageInterface(id, _) => part_path(
+            alloc,
+            "packages",
+            id.index(),
+            "interfaces",
+        ),
+        GraphPlace::PackageWorld(id, _) => part_path(alloc, "packages", id.index(), "worlds"),
+        GraphPlace::Interface(id) => item_path(alloc, "interfaces", id.index()),
+        GraphPlace::World(id) => item_path(alloc, "worlds", id.index()),
+        GraphPlace::Type_(id) => item_path(alloc, "types", id.index()),
+        GraphPlace::InterfaceType(id, _) => part_path(alloc, "interfaces", id.index(), "types"),
+        GraphPlace::Function(id, _) => part_path(alloc, "interfaces", id.index(), "functions"),
+        GraphPlace::Import(id, _) => part_path(alloc, "worlds", id.index(), "imports"),
+        GraphPlace::Export(id, _) => part_path(alloc, "worlds", id.index(), "exports"),
     }
 }
 
-/// Adds the steps from the graph to a thing of one of its lists.
-fn push_item(
-    alloc: Global,
-    path: &mut Items<Step>,
-    list: &str,
-    index: usize,
-) -> Result<(), AllocError>
-    ensures { OnOk result (path.new ≡ path.old ++ Item index ∷ Member list.now ∷ []) }
+/// The step to a list.
+fn list_path(alloc: Global, list: &str) -> Result<Items<Step>, AllocError>
+    ensures { IfOk result (λ path. path ≡ Member list.now ∷ []) }
 {
+    let mut path = Items::new(alloc);
+    push_member(alloc, &mut path, list)?;
+    Ok(path)
+}
+
+/// The steps to an item of a list.
+fn item_path(alloc: Global, list: &str, index: usize) -> Result<Items<Step>, AllocError>
+    ensures { IfOk result (λ path. path ≡ Item index ∷ Member list.now ∷ []) }
+{
+    let mut path = Items::new(alloc);
     path.push(Step::Item(index))?;
-    push_member(alloc, path, list)
+    push_member(alloc, &mut path, list)?;
+    Ok(path)
+}
+
+/// The steps to a member of an item of a list.
+fn part_path(alloc: Global, list: &str, index: usize, part: &str) -> Result<Items<Step>, AllocError>
+    ensures { IfOk result (λ path. path ≡ Member part.now ∷ Item index ∷ Member list.now ∷ []) }
+{
+    let mut path = Items::new(alloc);
+    push_member(alloc, &mut path, part)?;
+    path.push(Step::Item(index))?;
+    push_member(alloc, &mut path, list)?;
+    Ok(path)
 }
 
 fn push_member(alloc: Global, path: &mut Items<Step>, name: &str) -> Result<(), AllocError>
