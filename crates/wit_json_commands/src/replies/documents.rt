@@ -14,7 +14,7 @@ use super::unshaped::write_text;
 use std::alloc::{AllocError, Global};
 use wit_data::{Items, SourceMap, TrackRule};
 use wit_graph_data::{Features, Graph};
-use wit_graph_faults::GraphFault;
+use wit_graph_faults::{GraphClause, GraphFault};
 use wit_json::JsonText;
 use wit_json_reading::{Expected, Fault, Step};
 
@@ -97,9 +97,23 @@ fn write_graph_fault(out: &mut JsonText, reason: GraphFault) -> Result<(), Alloc
         (member (codes "clause") (json_of_text (graph_clause_name reason.clause))
         ++ member (codes "message") (json_of_text (graph_fault_text reason)))) }
 {
+    write_clause(out, reason.clause)?;
+    write_message(out, reason)
+}
+
+fn write_clause(out: &mut JsonText, clause: GraphClause) -> Result<(), AllocError>
+    ensures { OnOk result (Adds out.old out.new
+        (member (codes "clause") (json_of_text (graph_clause_name clause)))) }
+{
+    write_text(out, "clause", clause.name())
+}
+
+fn write_message(out: &mut JsonText, reason: GraphFault) -> Result<(), AllocError>
+    ensures { OnOk result (Adds out.old out.new
+        (member (codes "message") (json_of_text (graph_fault_text reason)))) }
+{
     let alloc = out.allocator();
     let text = format!(in alloc; "{reason}")?;
-    write_text(out, "clause", reason.clause.name())?;
     write_text(out, "message", text.as_str())
 }
 
