@@ -110,7 +110,7 @@ const DOCUMENTS: [(&[u8], &str); 8] = [
     ),
     (
         b"{\"commands\":1}",
-        "1 63 {\"fault\":{\"path\":[\"commands\"],\"offset\":12,\"expected\":\"a list\"}}",
+        "1 84 {\"fault\":{\"path\":[\"commands\"],\"offset\":12,\"line\":1,\"column\":13,\"expected\":\"a list\"}}",
     ),
     (b"push\xff", "3 0 "),
     (
@@ -174,7 +174,7 @@ const A_PACKAGE: &[u8] =
 
 /// What is new once it is carried out, and once it is refused.
 const WITH_A_PACKAGE: &str =
-    "0 307 {\"from\":{\"worlds\":0,\"interfaces\":0,\"types\":0,\"packages\":0,\"sources\":0},\
+    "0 301 {\"from\":{\"worlds\":0,\"interfaces\":0,\"types\":0,\"packages\":0,\"sources\":0},\
     \"graph\":{\"worlds\":[],\"interfaces\":[],\"types\":[],\
     \"packages\":[{\"name\":\"a:b\",\"interfaces\":{},\"worlds\":{}}]},\
     \"details\":{\"worlds\":[],\"interfaces\":[],\"types\":[]},\"features\":{\"all\":false,\"names\":[]},\
