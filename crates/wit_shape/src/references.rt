@@ -32,6 +32,7 @@ pub(crate) fn earlier(
     Ok(None)
 }
 
+/// Whether a type refers to types before an index alone.
 pub fn refers_back(alloc: Global, index: usize, def: &TypeDef) -> Result<bool, AllocError>
     ensures { IfOk result (λ back. IsTrue back ↔ Each (λ id. id < index) (referred def.now.kind)) }
 {

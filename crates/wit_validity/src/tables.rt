@@ -39,6 +39,7 @@ fn are_in_tables(packages: &[Package], interfaces: &[Interface]) -> bool
     interfaces.iter().enumerate().all(|(index, interface)| is_in_table(packages, index, interface))
 }
 
+/// Whether an interface has a package, and stands in its table where it has a name.
 pub fn is_in_table(packages: &[Package], index: usize, interface: &Interface) -> bool
     ensures { IsTrue result ↔ IsInTable packages.now index interface.now }
 {
@@ -82,6 +83,7 @@ fn are_worlds_in_tables(packages: &[Package], worlds: &[World]) -> bool
         .all(|(index, world)| is_world_in_table(packages, index, world))
 }
 
+/// Whether a world has a package, and stands in its table.
 pub fn is_world_in_table(packages: &[Package], index: usize, world: &World) -> bool
     ensures { IsTrue result ↔ IsWorldInTable packages.now index world.now }
 {

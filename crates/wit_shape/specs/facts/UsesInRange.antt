@@ -35,7 +35,8 @@ other_owner_is owner.None owner.None j is = cc
 
 -- a named type of this owner, or of an interface with a name
 abbrev NamedFor : List Interface → TypeOwner → TypeDef → Type 0
-NamedFor interfaces by named = IsSome named.name × ((named.owner ≡ by) ⊎ IsNamedInterface interfaces named.owner)
+NamedFor interfaces by named =
+    IsSome named.name × ((named.owner ≡ by) ⊎ IsNamedInterface interfaces named.owner)
 
 named_other : (interfaces : List Interface) (mine : TypeOwner) (named : TypeDef) (j : ℕ) → NamedFor interfaces mine named → other_owner mine named.owner ≡ Some j → IsNamed interfaces j
 named_other interfaces mine named j has is =
