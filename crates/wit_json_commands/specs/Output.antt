@@ -1,5 +1,5 @@
 -- The documents that come out.
-use Rattle.std.specs.Prelude.{ℕ, List, [], ◌++◌, codes, reverse}
+use Rattle.std.specs.Prelude.{List, [], ◌++◌, codes, reverse}
 use Rattle.json.specs.Json.{Json}
 use Rattle.wit_graph_data.specs.declared.features.Features.{Features}
 use Rattle.wit_graph_data.specs.declared.graph.Graph.{Graph}
