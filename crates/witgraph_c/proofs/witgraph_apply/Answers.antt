@@ -15,14 +15,14 @@ returns-in-Some-clause-not_understood c is =
     let told = c.apply-status.ensures.not_understood is in
     let low : 1 ≤ c.apply-status.result = omega (arith, is) in
     let high : c.apply-status.result ≤ 4 = omega (arith, is) in
-    (told.0, stays _ _ _ _ _ c.in-Some.ensures.taken c.deref_mut.ensures.value c.put.ensures (c.apply-status.ensures.kept low high, (c.apply-status.ensures.told low high, told.1)))
+    (told.0, stays _ _ _ _ _ c.in-Some.ensures.taken c.deref_mut.ensures.value c.put.ensures (c.apply-status.ensures.kept low high, c.apply-status.ensures.told low high, told.1))
 
 pub returns-in-Some-clause-utf8 : goal.returns-in-Some-clause-utf8
 returns-in-Some-clause-utf8 c is =
     let low : 1 ≤ c.apply-status.result = omega (arith, is) in
     let high : c.apply-status.result ≤ 4 = omega (arith, is) in
     let past : 3 ≤ c.apply-status.result = omega (arith, is) in
-    (c.apply-status.ensures.utf8 is, stays _ _ _ _ _ c.in-Some.ensures.taken c.deref_mut.ensures.value c.put.ensures (c.apply-status.ensures.kept low high, (c.apply-status.ensures.told low high, c.apply-status.ensures.none past)))
+    (c.apply-status.ensures.utf8 is, stays _ _ _ _ _ c.in-Some.ensures.taken c.deref_mut.ensures.value c.put.ensures (c.apply-status.ensures.kept low high, c.apply-status.ensures.told low high, c.apply-status.ensures.none past))
 
 pub returns-in-Some-clause-memory : goal.returns-in-Some-clause-memory
 returns-in-Some-clause-memory c is =
@@ -30,7 +30,7 @@ returns-in-Some-clause-memory c is =
     let high : c.apply-status.result ≤ 4 = omega (arith, is) in
     let past : 3 ≤ c.apply-status.result = omega (arith, is) in
     let wanted : 4 ≤ c.apply-status.result = omega (arith, is) in
-    (c.apply-status.ensures.memory wanted, stays _ _ _ _ _ c.in-Some.ensures.taken c.deref_mut.ensures.value c.put.ensures (c.apply-status.ensures.kept low high, (c.apply-status.ensures.told low high, c.apply-status.ensures.none past)))
+    (c.apply-status.ensures.memory wanted, stays _ _ _ _ _ c.in-Some.ensures.taken c.deref_mut.ensures.value c.put.ensures (c.apply-status.ensures.kept low high, c.apply-status.ensures.told low high, c.apply-status.ensures.none past))
 
 pub returns-in-Some-clause-cut : goal.returns-in-Some-clause-cut
 returns-in-Some-clause-cut c is =
