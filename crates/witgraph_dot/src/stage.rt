@@ -4,7 +4,8 @@ ghost use Rattle.wit_graph_data.specs.declared.error_kind.ResolveErrorKind.TheVa
 ghost use Rattle.wit_resolve_graph.specs.declared.command.Reply.TheVariants.{Refused};
 ghost use Rattle.wit_script.specs.Ready.{CanAllBeAsked};
 ghost use Rattle.wit_script.specs.steps.Ready.{CanBeAsked};
-ghost use Rattle.witgraph_dot.specs.Made.{CommandMakes, ScriptMakes, came_to_something, joined, new_stage, stage_after, with_working_effect};
+ghost use Rattle.witgraph_dot.specs.Made.{CommandMakes, ScriptMakes, came_to_something, joined, stage_after};
+ghost use Rattle.witgraph_dot.specs.steps.Parts.{new_stage, with_working_effect};
 
 use crate::effect::Effect;
 use crate::listing::Listing;

@@ -1,7 +1,8 @@
 //! Interfaces at several versions.
 ghost use Rattle.std.specs.Prelude.{◌≡◌, IfOk};
 ghost use Rattle.std.specs.List.{list_any};
-ghost use Rattle.witgraph_dot.specs.Tracks.{are_of_one_base, have_one_track, are_versions_of_one, are_versions_by_name, is_version_of_any};
+ghost use Rattle.witgraph_dot.specs.Tracks.{are_of_one_base, have_one_track, are_versions_by_name, is_version_of_any};
+ghost use Rattle.witgraph_dot.specs.steps.Parts.{are_versions_of_one};
 
 use crate::names::full_name;
 use std::alloc::{AllocError, Global};

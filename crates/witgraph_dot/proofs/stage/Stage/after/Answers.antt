@@ -10,7 +10,8 @@ use Rattle.wit_script_explain.specs.facts.CarriedOn.{desk-come, rest_after-more,
 use Rattle.wit_script_explain.specs.steps.Explained.{place_of, rest_after, rest_of}
 use Rattle.wit_script_explain.specs.declared.lines.CommandPlace.{CommandPlace}
 use Rattle.witgraph_dot.proofs.stage.Stage.after.Goals as goal
-use Rattle.witgraph_dot.specs.Made.{CommandMakes, new_stage}
+use Rattle.witgraph_dot.specs.Made.{CommandMakes}
+use Rattle.witgraph_dot.specs.steps.Parts.{new_stage}
 
 pub carry_out-requires : goal.carry_out-requires
 carry_out-requires c =
