@@ -27,10 +27,10 @@ came_to_something (Some _) = true
 came_to_something None = false
 
 -- what the first graph lists after `merge`, by its reply
-abbrev pub joined : Option Reply → Listing → Listing → Listing
-joined (Some (reply.Merged remap)) first second =
+abbrev pub with_merged : Option Reply → Listing → Listing → Listing
+with_merged (Some (reply.Merged remap)) first second =
     merged_listing remap.worlds remap.interfaces second first
-joined _ first second = first
+with_merged _ first second = first
 
 -- the graphs as they are after a command with this effect and reply, with what was listed before it: other effects are on the
 -- graph on which commands work, the second, where there is one
@@ -38,7 +38,7 @@ abbrev pub stage_after : Effect → Option Reply → Desk → Listing → Listin
 stage_after effect.Opens answer desk first second =
     record { desk = desk; first = first; second = new_listing }
 stage_after effect.Joins answer desk first second =
-    record { desk = desk; first = joined answer first second; second = new_listing }
+    record { desk = desk; first = with_merged answer first second; second = new_listing }
 stage_after done answer desk first second =
     if came_to_something answer
     then option_map_or (λ (graph : TrackedGraph).
