@@ -32,7 +32,8 @@ use Rattle.wit_ways.specs.declared.asked.Asked.TheVariants.{Other}
 abbrev pub desk_after : ScriptLines → CommandPlace → Desk → Request → Option Reply → Stage → Desk
 desk_after script place before (request.Change change) reply now =
     let coming = drop place.packages script.packages in
-    with_working before (with_file_starts (record (working before) { resolve = working_state now }) coming
+    with_working before
+    (with_file_starts (record (working before) { resolve = working_state now }) coming
     (unless_refused reply coming))
 desk_after script place before request.Merge reply now =
     option_map_or (λ (second : TrackedGraph).

@@ -11,7 +11,7 @@ use Rattle.wit_names.specs.declared.package_name.PackageName.{PackageName}
 use Rattle.wit_resolve_graph.specs.declared.command.Reply.{Reply}
 use Rattle.wit_resolve_graph.specs.declared.command.Reply.TheVariants as reply
 use Rattle.wit_script_explain.specs.Places.{defined_line}
-use Rattle.wit_script_explain.specs.Shown.{command_text, place_lines, span_text}
+use Rattle.wit_script_explain.specs.Shown.{command_text, file_line_text, span_text}
 use Rattle.wit_script_explain.specs.Ways.{way_text}
 use Rattle.wit_script_explain.specs.declared.desk.TrackedGraph.{TrackedGraph}
 use Rattle.wit_script_explain.specs.declared.lines.CommandPlace.{CommandPlace}
@@ -25,7 +25,7 @@ use Rattle.wit_ways.specs.declared.asked.Asked.{Asked}
 abbrev pub other_text : ScriptLines → TrackedGraph → PackageName → Option (ℕ × ℕ) → List ℕ
 other_text script tracked name (Some range) = span_text script tracked (Some range)
 other_text script tracked name None =
-    option_map_or (λ index. place_lines script (index, package_name_text name, index))
+    option_map_or (λ index. file_line_text script (index, package_name_text name, index))
     (defined_line script name tracked.package_starts) []
 
 -- the lines that a refusal names: of a package that is defined twice both

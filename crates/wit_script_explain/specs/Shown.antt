@@ -30,8 +30,8 @@ command_text script index =
 
 -- where a line stands that goes into the file of a package: its number in the script, and in brackets the file, its number
 -- in the file, and the column at which it begins to say something
-abbrev pub place_lines : ScriptLines → ℕ × List ℕ × ℕ → List ℕ
-place_lines script place =
+abbrev pub file_line_text : ScriptLines → ℕ × List ℕ × ℕ → List ℕ
+file_line_text script place =
     option_map_or (λ line.
     codes "     --> line "
     ++ (decimal (place.0 + 1)
@@ -42,4 +42,4 @@ place_lines script place =
 -- the line of a span, or nothing where it is unknown
 abbrev pub span_text : ScriptLines → TrackedGraph → Option (ℕ × ℕ) → List ℕ
 span_text script tracked span =
-    option_map_or (place_lines script) (span_place script tracked span) []
+    option_map_or (file_line_text script) (span_place script tracked span) []

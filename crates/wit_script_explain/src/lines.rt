@@ -67,7 +67,8 @@ fn numbered(alloc: Global, lines: &[&str]) -> Result<ScriptLines, AllocError>
 }
 
 impl ScriptLines {
-    ghost use Rattle.wit_script_explain.specs.Lines.{no_lines, with_command_line, with_sort};
+    ghost use Rattle.wit_script_explain.specs.Lines.{with_command_line, with_sort};
+    ghost use Rattle.wit_script_explain.specs.steps.Parts.{no_lines};
 
     /// The line of an index, where it is there; then it has a number, counted from 1.
     pub fn line_at(&self, index: usize) -> Option<&str>

@@ -6,14 +6,21 @@ use Rattle.wit_data.specs.declared.world.WorldItem.TheVariants as item
 use Rattle.wit_data.specs.declared.world.WorldKey.TheVariants as key
 use Rattle.wit_graph_data.specs.declared.graph.Package.{Package}
 use Rattle.witgraph_dot.specs.Sets.{is_one_of}
-use Rattle.witgraph_dot.specs.Texts.{quoted_text}
+use Rattle.witgraph_dot.specs.Texts.{quoted_text, quoted_name}
+use Rattle.wit_names.specs.declared.package_name.PackageName.{PackageName}
+
+-- the name of package p
+abbrev pub name_box : ℕ → PackageName → List ℕ
+name_box p owner =
+    codes "    p" ++ (decimal p ++ (codes " [shape=plaintext, style=filled, fillcolor=\"#f6f6f3\", fontname=\"Helvetica-Bold\", margin=\"0.02,0.02\", height=0, label=\"" ++ (quoted_name owner ++ codes "\"];\n")))
 
 -- the interfaces of a package that are shown, each with its name
 abbrev pub interface_boxes : List ℕ → Package → List ℕ
 interface_boxes shown «package» =
     flat_map (λ (e : List ℕ × ℕ).
     if is_one_of shown e.1
-    then codes "    i" ++ (decimal e.1 ++ (codes " [label=\"" ++ (quoted_text e.0 ++ codes "\"];\n")))
+    then codes "    i"
+    ++ (decimal e.1 ++ (codes " [label=\"" ++ (quoted_text e.0 ++ codes "\"];\n")))
     else [])
     «package».interfaces
 

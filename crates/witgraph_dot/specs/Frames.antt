@@ -5,10 +5,9 @@ use Rattle.std.specs.Option.{option_map_or}
 use Rattle.wit_data.specs.declared.world.World.{World}
 use Rattle.wit_graph_data.specs.declared.graph.Package.{Package}
 use Rattle.wit_names.specs.declared.package_name.PackageName.{PackageName}
-use Rattle.witgraph_dot.specs.Boxes.{interface_boxes, world_box}
+use Rattle.witgraph_dot.specs.Boxes.{interface_boxes, world_box, name_box}
 use Rattle.witgraph_dot.specs.Scene.{View}
 use Rattle.witgraph_dot.specs.Sets.{is_one_of}
-use Rattle.witgraph_dot.specs.Texts.{quoted_name}
 
 -- a world of a package is shown
 abbrev pub shows_world : List ℕ → Package → Bool
@@ -34,11 +33,10 @@ world_boxes all worlds «package» =
     if is_one_of worlds e.1 then option_map_or (world_box e.1) (slice_get all e.1) [] else [])
     «package».worlds
 
--- the beginning of the frame of package p, with its name in a box
+-- the beginning of the frame of package p, with its name
 abbrev pub frame_head : ℕ → PackageName → List ℕ
 frame_head p owner =
-    codes "  subgraph cluster_" ++ (decimal p ++ (codes " {\n    style=\"rounded,filled\"; color=\"#c9c9c9\"; fillcolor=\"#f6f6f3\"; label=\"\";\n"
-    ++ (codes "    p" ++ (decimal p ++ (codes " [shape=plaintext, style=filled, fillcolor=\"#f6f6f3\", fontname=\"Helvetica-Bold\", margin=\"0.02,0.02\", height=0, label=\"" ++ (quoted_name owner ++ codes "\"];\n"))))))
+    codes "  subgraph cluster_" ++ (decimal p ++ (codes " {\n    style=\"rounded,filled\"; color=\"#c9c9c9\"; fillcolor=\"#f6f6f3\"; label=\"\";\n" ++ name_box p owner))
 
 -- the frame of package p, where there is something in it
 abbrev pub frame_text : View → ℕ → Package → List ℕ

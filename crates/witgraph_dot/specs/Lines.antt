@@ -95,11 +95,16 @@ box_letter _ = codes "m"
 abbrev pub box_name : ArrowKind → ℕ → ℕ → List ℕ
 box_name sort w i = box_letter sort ++ (decimal w ++ (codes "_" ++ decimal i))
 
--- a box of this name with labels, an arrow of this look from world w to it, which ends there without a head, and on to
+-- the box of this name, with labels
+abbrev pub label_box : List ℕ → List ℕ → List ℕ
+label_box name labels =
+    codes "  " ++ (name ++ (codes " [shape=plaintext, style=filled, fontsize=10, margin=\"0.04,0.02\", height=0, width=0, label=\"" ++ (labels ++ codes "\"];\n")))
+
+-- the box of this name with labels, an arrow of this look from world w to it, which ends there without a head, and on to
 -- interface i
 abbrev pub arrow_through_box : List ℕ → ℕ → ℕ → List ℕ → List ℕ → List ℕ
 arrow_through_box name w i labels attributes =
-    (codes "  " ++ (name ++ (codes " [shape=plaintext, style=filled, fontsize=10, margin=\"0.04,0.02\", height=0, width=0, label=\"" ++ (labels ++ codes "\"];\n"))))
+    label_box name labels
     ++ ((codes "  w"
     ++ (decimal w
     ++ (codes " -> " ++ (name ++ (codes " [" ++ (attributes ++ codes ", dir=none];\n"))))))

@@ -70,7 +70,7 @@ import_arrows v w =
     let included = included_worlds v w in
     let left = without (shown_imports v w) (included_imports v.graph.worlds included) in
     let brought =
-        intersection left (included_imports v.graph.worlds (listed_for w v.includes)) in
+    intersection left (included_imports v.graph.worlds (listed_for w v.includes)) in
     let single = without left (whole_frames frames brought) in
     let listed = listed_for w v.imports in
     map (λ u. record { kind = kind.Listed; target = target.World u }) included

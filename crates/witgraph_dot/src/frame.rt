@@ -2,8 +2,8 @@
 ghost use Rattle.std.specs.Prelude.{◌≡◌, ◌++◌, OnOk, string_bytes};
 ghost use Rattle.std.specs.List.{flat_map};
 ghost use Rattle.witgraph_dot.specs.Frames.{frame_head, frame_text, has_inner_frame, shown_boxes, shows_world, world_boxes};
-ghost use Rattle.witgraph_dot.specs.Boxes.{box_line, interface_boxes, world_box};
-ghost use Rattle.witgraph_dot.specs.steps.Parts.{name_box, interface_box, world_head, inner_frame, shown_world, whole_frame, view_of};
+ghost use Rattle.witgraph_dot.specs.Boxes.{box_line, interface_boxes, world_box, name_box};
+ghost use Rattle.witgraph_dot.specs.steps.Parts.{interface_box, world_head, inner_frame, shown_world, whole_frame, view_of};
 
 use crate::scene::Scene;
 use crate::sets::{is_one_of, is_world_among};

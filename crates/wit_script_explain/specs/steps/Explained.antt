@@ -20,7 +20,8 @@ ExplainsReply script place before command coming brought None text after = ⊥
 ExplainsReply script place before command coming brought (Some reply) text after =
     (new : State) × Step before.resolve command reply new
     × (after
-    ≡ with_file_starts (record before { resolve = new }) coming (unless_refused (Some reply) brought))
+    ≡ with_file_starts (record before { resolve = new }) coming
+    (unless_refused (Some reply) brought))
     × TellsReply script place after (asked_of before.resolve command) (Some reply) text
 
 -- the first of some commands; where there is none, one behind all lines

@@ -35,7 +35,7 @@ use Rattle.wit_data.specs.declared.unresolved.UnresolvedPackage.{UnresolvedPacka
 use Rattle.wit_data.specs.Entries.{Entry}
 use Rattle.witgraph_dot.specs.Frames.{has_inner_frame, world_boxes, shown_boxes, frame_head}
 use Rattle.witgraph_dot.specs.Labels.{labelled_interface}
-use Rattle.witgraph_dot.specs.Texts.{quoted_text, quoted_name}
+use Rattle.witgraph_dot.specs.Texts.{quoted_text}
 use Rattle.witgraph_dot.specs.Lines.{frame_end}
 use Rattle.witgraph_dot.specs.Choice.{picks}
 use Rattle.witgraph_dot.specs.Pushed.{interface_by_name, is_interface_item, is_world_item}
@@ -45,11 +45,6 @@ use Rattle.witgraph_dot.specs.declared.arrow.ArrowKind.TheVariants as kind
 use Rattle.witgraph_dot.specs.declared.arrow.Target.TheVariants as target
 use Rattle.witgraph_dot.specs.declared.effect.Effect.TheVariants as effect
 use Rattle.wit_script_lines.specs.declared.request.Request.TheVariants as request
-
--- the name of package p
-abbrev pub name_box : ℕ → PackageName → List ℕ
-name_box p owner =
-    codes "    p" ++ (decimal p ++ (codes " [shape=plaintext, style=filled, fillcolor=\"#f6f6f3\", fontname=\"Helvetica-Bold\", margin=\"0.02,0.02\", height=0, label=\"" ++ (quoted_name owner ++ codes "\"];\n")))
 
 -- interface i
 abbrev pub interface_box : ℕ → List ℕ → List ℕ
@@ -177,11 +172,6 @@ end_in_frame v p attributes «package» interfaces =
 abbrev pub and_label : List ℕ → List ℕ → List ℕ
 and_label labels label =
     if length labels == 0 then quoted_text label else labels ++ (codes "\\n" ++ quoted_text label)
-
--- the box of this name, with labels
-abbrev pub label_box : List ℕ → List ℕ → List ℕ
-label_box name labels =
-    codes "  " ++ (name ++ (codes " [shape=plaintext, style=filled, fontsize=10, margin=\"0.04,0.02\", height=0, width=0, label=\"" ++ (labels ++ codes "\"];\n")))
 
 -- an arrow of this look from world w to the box, which ends there without a head
 abbrev pub arrow_to_box : List ℕ → ℕ → List ℕ → List ℕ
