@@ -1,7 +1,7 @@
 -- A package of which some lines are read.
 use Rattle.std.specs.Prelude.{ℕ, ◌+◌, List, [], ◌∷◌, ◌++◌, length, map, nat_le, Option, Some, None, if◌then◌else◌, option_map}
 use Rattle.wit_names.specs.PackageName.{package_name_text}
-use Rattle.wit_sources.specs.SourceMap.{with_file}
+use Rattle.wit_sources.specs.SourceMap.{Sources, with_file}
 use Rattle.wit_names.specs.declared.package_name.PackageName.{PackageName}
 use Rattle.wit_data.specs.declared.unresolved.UnresolvedPackageGroup.{UnresolvedPackageGroup}
 use Rattle.wit_script_lines.specs.Line.{content_start_of, content_end_of}
@@ -48,7 +48,7 @@ new_draft name line ms = option_map (new_draft_at name line (known_mentions ms))
 -- the package as a group of its own, where its file fits. The file has the text of the package's name as its path
 abbrev pub as_group : Draft → Option UnresolvedPackageGroup
 as_group p =
-    option_map (λ sources. record {
+    option_map (λ (sources : Sources). record {
       main = record {
         name = p.name;
         package_name_span = p.name_span;

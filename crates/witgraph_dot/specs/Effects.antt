@@ -19,7 +19,7 @@ use Rattle.witgraph_dot.specs.declared.listing.Listing.{Listing}
 
 -- ---- what a command does, on this graph before it
 
--- `importize`: what the world exports will be listed for it
+-- of `importize`, what the world exports will be listed for it
 abbrev pub request_effect : Graph → Request → Effect
 request_effect g (request.Change (change.PushGroups main deps)) = effect.Pushes (main ∷ deps)
 request_effect g (request.Change (change.Importize owner name out)) =

@@ -82,7 +82,7 @@ label_for i _ = None
 -- labels, one on a line
 abbrev pub label_lines : List (List ℕ) → List ℕ
 label_lines labels =
-    fold (λ lines label.
+    fold (λ (lines label : List ℕ).
     if length lines == 0 then quoted_text label else lines ++ (codes "\\n" ++ quoted_text label))
     [] labels
 
