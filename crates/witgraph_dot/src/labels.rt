@@ -10,7 +10,7 @@ use std::alloc::{AllocError, Global};
 use wit_resolve_graph::{InterfaceId, Table, WorldItem, WorldKey};
 
 /// The interface of an entry under a label.
-pub fn labelled_interface(key: &WorldKey, item: &WorldItem) -> Option<InterfaceId>
+fn labelled_interface(key: &WorldKey, item: &WorldItem) -> Option<InterfaceId>
     ensures { result ≡ labelled_interface (key.now, item.now) }
 {
     match (key, item) {
