@@ -1,7 +1,8 @@
 //! Ways of refusals with their lines.
 ghost use Rattle.std.specs.Prelude.{◌≡◌, IfOk, string_bytes};
 ghost use Rattle.std.specs.List.{flat_map};
-ghost use Rattle.wit_script_explain.specs.Ways.{line_text, way_text};
+ghost use Rattle.wit_script_explain.specs.Ways.{way_text};
+ghost use Rattle.wit_script_explain.specs.steps.Parts.{line_text};
 
 use crate::desk::TrackedGraph;
 use crate::lines::ScriptLines;

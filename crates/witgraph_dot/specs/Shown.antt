@@ -7,21 +7,18 @@ use Rattle.wit_data.specs.declared.interface.Interface.{Interface}
 use Rattle.wit_data.specs.declared.world.World.{World}
 use Rattle.wit_graph_data.specs.declared.graph.Graph.{Graph}
 use Rattle.wit_graph_data.specs.declared.graph.Package.{Package}
-use Rattle.witgraph_dot.specs.Choice.{is_picked}
 use Rattle.witgraph_dot.specs.declared.choice.Choice.{Choice}
 use Rattle.witgraph_dot.specs.declared.choice.Pick.{Pick}
+use Rattle.witgraph_dot.specs.Choice.{picks}
 
 -- ---- which picks are of a thing
 
--- one of some picks is of what has this name in package p
-abbrev pub has_pick : List Package → List Pick → ℕ → List ℕ → Bool
-has_pick packages picked p name =
-    option_map_or (λ (owner : Package). is_picked picked owner.name name) (slice_get packages p)
-    false
-
--- the same of what may lack a package and a name
+-- one of some picks is of what has this name in this package; of what lacks either none is
 abbrev pub has_pick_at : List Package → List Pick → Option ℕ → Option (List ℕ) → Bool
-has_pick_at packages picked (Some p) (Some name) = has_pick packages picked p name
+has_pick_at packages picked (Some p) (Some name) =
+    option_map_or (λ (owner : Package).
+    list_any (λ (pick : Pick). picks pick owner.name name) picked)
+    (slice_get packages p) false
 has_pick_at packages picked (Some p) None = false
 has_pick_at packages picked None name = false
 
@@ -35,12 +32,6 @@ abbrev pub world_has_pick : List Package → List Pick → World → Bool
 world_has_pick packages picked world = has_pick_at packages picked world.«package» (Some world.name)
 
 -- ---- what is shown
-
--- a world: it is picked, or nothing is, and it isn't hidden
-abbrev pub is_world_shown : Choice → List Package → World → Bool
-is_world_shown choice packages world =
-    (length choice.shown == 0 || world_has_pick packages choice.shown world)
-    && not (world_has_pick packages choice.hidden world)
 
 -- the interfaces that the worlds which are picked import and export, under whatever keys
 abbrev pub entries_of_picked : List Package → List Pick → List World → List ℕ
@@ -70,6 +61,9 @@ shown_interfaces choice g =
     (is_interface_shown choice g.packages (entries_of_picked g.packages choice.shown g.worlds)) 0
     g.interfaces
 
--- the worlds of a graph that are shown
+-- the worlds of a graph that are shown: each that is picked, or all where nothing is, and that isn't hidden
 abbrev pub shown_worlds : Choice → Graph → List ℕ
-shown_worlds choice g = indices_from (λ w. is_world_shown choice g.packages) 0 g.worlds
+shown_worlds choice g =
+    indices_from (λ w (world : World).
+    (length choice.shown == 0 || world_has_pick g.packages choice.shown world)
+    && not (world_has_pick g.packages choice.hidden world)) 0 g.worlds
