@@ -13,20 +13,17 @@ use Rattle.wit_json_commands.specs.declared.replies.answers.Refusal.{Refusal}
 use Rattle.wit_json_commands.specs.declared.replies.file_places.FilePlace.{FilePlace}
 use Rattle.wit_json_commands.specs.declared.replies.refusals.WayStep.{WayStep}
 
--- what was asked for, and the package that lacks it
-abbrev pub missing_fields : Json → Json → List Member
-missing_fields requested home =
-    member (codes "requested") requested ++ member (codes "package") home
-
 -- the fields of an error under their names, but for its span and its cause, which stand beside them
 abbrev pub error_fields : ResolveErrorKind → List Member
 error_fields (kind.PackageNotFound span requested known) =
     member (codes "requested") (json_of_package_name requested)
     ++ member (codes "known") (list_of json_of_package_name known)
 error_fields (kind.WorldNotFound span requested home) =
-    missing_fields (json_of_text requested) (json_of_package_name home)
+    member (codes "requested") (json_of_text requested)
+    ++ member (codes "package") (json_of_package_name home)
 error_fields (kind.InterfaceNotFound span requested home) =
-    missing_fields (json_of_text requested) (json_of_package_name home)
+    member (codes "requested") (json_of_text requested)
+    ++ member (codes "package") (json_of_package_name home)
 error_fields (kind.InvalidTransitiveDependency span name) =
     member (codes "name") (json_of_text name)
 error_fields (kind.DuplicatePackage name span1 span2) =
@@ -41,9 +38,6 @@ error_fields (kind.StabilityMismatch span from into) =
 error_fields (kind.Semantic span message cause) = member (codes "message") (json_of_text message)
 error_fields kind.OffsetOverflow = []
 error_fields kind.OutOfMemory = []
-
-abbrev pub json_of_fields : ResolveErrorKind → Json
-json_of_fields error = object (error_fields error)
 
 -- a file by its path, a line and a column, both from 1
 abbrev pub json_of_file_place : FilePlace → Json
@@ -63,7 +57,7 @@ json_of_way_step step =
 abbrev pub json_of_refused : Refusal → Json
 json_of_refused refusal =
     object (member (codes "error") (json_of_refusal refusal.error)
-    ++ member (codes "fields") (json_of_fields refusal.error)
+    ++ member (codes "fields") (object (error_fields refusal.error))
     ++ member (codes "places") (list_of json_of_file_place refusal.places)
     ++ member (codes "way") (list_of json_of_way_step refusal.way)
     ++ member (codes "rendered") (json_of_text refusal.rendered))

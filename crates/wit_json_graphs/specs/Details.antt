@@ -17,7 +17,6 @@ use Rattle.wit_data.specs.declared.types.TypeDefKind.TheVariants as kind
 use Rattle.wit_data.specs.declared.world.World.{World}
 use Rattle.wit_data.specs.declared.world.WorldItem.{WorldItem}
 use Rattle.wit_data.specs.declared.world.WorldItem.TheVariants as item
-use Rattle.wit_data.specs.declared.world.WorldKey.{WorldKey}
 use Rattle.wit_graph_data.specs.declared.graph.Graph.{Graph}
 use Rattle.wit_json.specs.Worlds.{entry_name}
 use Rattle.wit_json_reading.specs.Gates.{read_docs, read_place, read_span}
@@ -57,11 +56,6 @@ abbrev pub table_with : {K A : Type 0} → (K → List ℕ) → (A → Json → 
     → Reading (List (K × A))
 table_with name f es (json.object ms) = entries_with name f es ms
 table_with name f es _ = instead_of expected.Object
-
--- the entries of a table under names
-abbrev pub named_with : {A : Type 0} → (A → Json → Reading A) → List (List ℕ × A) → Json
-    → Reading (List (List ℕ × A))
-named_with f es j = table_with (λ (name : List ℕ). name) f es j
 
 -- ---- types
 
@@ -116,7 +110,8 @@ unfoldable pub interface_with : Interface → Json → Reading Interface
 interface_with interface j = do
   _ ← only (codes "span" ∷ codes "functions" ∷ []) j
   span ← read_span j
-  functions ← read_required (named_with function_with_details interface.functions)
+  functions ← read_required
+      (table_with (λ (name : List ℕ). name) function_with_details interface.functions)
       (codes "functions") j
   Ok (record interface { span = span; functions = functions })
 
@@ -144,15 +139,12 @@ item_with (item.Interface id stability _ _ _) j =
 item_with (item.Function f) j = function_with_details f j >>= λ g. Ok (item.Function g)
 item_with (item.Type_ id _) j = span_alone j >>= λ span. Ok (item.Type_ id span)
 
-abbrev pub items_with : List (WorldKey × WorldItem) → Json → Reading (List (WorldKey × WorldItem))
-items_with entries j = table_with entry_name item_with entries j
-
 unfoldable pub world_with : World → Json → Reading World
 world_with world j = do
   _ ← only (codes "span" ∷ codes "imports" ∷ codes "exports" ∷ []) j
   span ← read_span j
-  imports ← read_required (items_with world.imports) (codes "imports") j
-  exports ← read_required (items_with world.exports) (codes "exports") j
+  imports ← read_required (table_with entry_name item_with world.imports) (codes "imports") j
+  exports ← read_required (table_with entry_name item_with world.exports) (codes "exports") j
   Ok (record world { span = span; imports = imports; exports = exports })
 
 -- ---- graphs
