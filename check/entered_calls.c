@@ -12,6 +12,8 @@ static uint32_t on_a_graph(const uint8_t *document, size_t length, uint8_t *text
   witgraph_graph graph = {0};
   uint32_t status = witgraph_open(&graph);
   if (!status) status = witgraph_apply(&graph, document, length, needed);
+  for (int i = 0; i < 2; i++)
+    if (!status) status = witgraph_write_new(&graph, needed);
   if (!status) status = witgraph_write(&graph, needed);
   if (status <= WITGRAPH_NOT_UNDERSTOOD) witgraph_reply(&graph, text, capacity, needed);
   witgraph_close(&graph);

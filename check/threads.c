@@ -92,6 +92,7 @@ static uint32_t on_a_graph(const uint8_t *document, size_t length, uint8_t *text
   uint32_t status = witgraph_open(&graph);
   if (!status) status = witgraph_apply(&graph, document, length, needed);
   if (!status) status = witgraph_write(&graph, needed);
+  if (!status) status = witgraph_write_new(&graph, needed);
   if (!status) status = witgraph_reply(&graph, text, capacity, needed);
   return witgraph_close(&graph) ? WITGRAPH_NO_GRAPH : status;
 }

@@ -114,8 +114,8 @@ uint32_t witgraph_json(const uint8_t *input, size_t length, uint8_t *output, siz
  * which means that no graph is open. From then on only the calls below write to it. Don't copy the struct or let it go
  * while a graph is open: witgraph_close frees what the graph takes. Below, `graph` is not null, and aligned.
  *
- * witgraph_apply and witgraph_write leave a text with the graph, until the next of these two calls. witgraph_reply copies
- * it. So no command is carried out twice because an output was too small. */
+ * witgraph_apply, witgraph_write and witgraph_write_new leave a text with the graph, until the next of these calls.
+ * witgraph_reply copies it. So no command is carried out twice because an output was too small. */
 typedef struct witgraph_graph {
   void *session;
 } witgraph_graph;
@@ -145,8 +145,27 @@ uint32_t witgraph_apply(witgraph_graph *graph, const uint8_t *input, size_t leng
  * Status: WITGRAPH_UNDERSTOOD, WITGRAPH_NO_MEMORY or WITGRAPH_NO_GRAPH. */
 uint32_t witgraph_write(witgraph_graph *graph, size_t *needed);
 
-/* Copies the text that the last witgraph_apply or witgraph_write left. It is empty if none was called, or the last one left
- * none. It may be copied again.
+/* Leaves what is new of the graph as the text, for a caller who keeps what earlier texts of this call told. It is JSON as of
+ * witgraph_write, with a member "from" in front:
+ *
+ *     {"from": {"worlds": 3, "interfaces": 5, "types": 9, "packages": 2, "sources": 1}, "graph": .., "details": .., ..}
+ *
+ * Each number says at which index a list goes on: keep what stands before it, drop the rest, and put the text's things there.
+ * So you get what witgraph_write tells. The first text has all, from 0. A later one has what came since, and from 0
+ *
+ * - worlds and packages after an importize or exportize, though it be refused;
+ * - all lists but that of files after a semver or a merge;
+ * - all lists after a document with a graph of its own, and after WITGRAPH_CUT_SHORT.
+ *
+ * The next call doesn't tell this text again, so copy it before another call takes its place. The graph stays as it is.
+ *
+ * needed  as for witgraph_apply.
+ *
+ * Status: WITGRAPH_UNDERSTOOD; WITGRAPH_NO_MEMORY, and then the next call tells it; WITGRAPH_NO_GRAPH. */
+uint32_t witgraph_write_new(witgraph_graph *graph, size_t *needed);
+
+/* Copies the text that the last of these three calls left. It is empty if none was called, or the last one left none. It may
+ * be copied again.
  *
  * output, capacity, needed  as for witgraph_execute.
  *

@@ -41,17 +41,19 @@ static int fails(const char *what, long number) {
   return 1;
 }
 
-/* The replies to a document on a graph that stays, and the graph. After a call of which no command is carried out the graph
+/* The replies to a document on a graph that stays, the graph, and what is new of it. After a call of which no command is carried out the graph
  * is empty, as it was opened. */
 static uint32_t on_a_graph(const uint8_t *document, size_t length, uint8_t *text, size_t capacity, size_t *needed) {
   static const char empty[] = "{\"graph\":{\"worlds\":[],\"interfaces\":[],\"types\":[],\"packages\":[]}";
   static uint8_t kept[1 << 20];
   witgraph_graph graph = {0};
-  size_t told = *needed = 0, more = 0;
+  size_t told = *needed = 0, more = 0, news = 0;
   uint32_t status = witgraph_open(&graph);
   if (!status && !(status = witgraph_apply(&graph, document, length, &told))) {
     witgraph_reply(&graph, text, capacity, &told);
     if (!(status = witgraph_write(&graph, &more))) witgraph_reply(&graph, text + told, capacity - told, &more);
+    if (!status && !(status = witgraph_write_new(&graph, &news)))
+      witgraph_reply(&graph, text + told + more, capacity - told - more, &news);
     if (status) text[0] = '.';
   } else if (status == WITGRAPH_NO_MEMORY && graph.session) {
     long after = refused;
@@ -60,7 +62,7 @@ static uint32_t on_a_graph(const uint8_t *document, size_t length, uint8_t *text
     if (memcmp(kept, empty, sizeof empty - 1)) abort();
     refused = after;
   }
-  if (!status) *needed = told + more;
+  if (!status) *needed = told + more + news;
   witgraph_close(&graph);
   return status == WITGRAPH_CUT_SHORT ? WITGRAPH_NO_MEMORY : status;
 }

@@ -14,6 +14,7 @@ import json
 import multiprocessing
 import os
 import pickle
+import random
 import subprocess
 import sys
 import tempfile
@@ -524,11 +525,94 @@ class Resolves(unittest.TestCase):
         def one_by_one():
             return linking.linked().graph
 
+        def looked_at():
+            """The same, where each graph on the way is looked at."""
+            resolve = wg.Resolve()
+            for number in range(linking.PACKAGES):
+                resolve.apply([linking.push(number)])
+                self.assertEqual(len(resolve.graph.packages), number + 1)
+            return resolve.graph
+
         self.assertEqual(one_by_one(), at_once())
+        self.assertEqual(looked_at(), at_once())
         last = list(linking.lines(one_by_one()))[-1]
         self.assertEqual(last, "chain:p199/types turn: func(it: t) -> t; w imports 200")
-        slow, fast = least_times(one_by_one, at_once)
-        self.assertLessEqual(slow, 1.5 * fast)
+        one, looked, other = least_times(one_by_one, looked_at, at_once)
+        self.assertLessEqual(one, 1.5 * other)
+        self.assertLessEqual(looked, 2 * other)
+
+    def test_what_is_new_makes_the_whole(self):
+        for seed in range(60):
+            chosen = random.Random(seed)
+            commands, resolve = Commands(chosen), wg.Resolve()
+            for _ in range(12):
+                before = resolve.graph if chosen.random() < 0.3 else None
+                for _ in range(chosen.randint(1, 3)):
+                    resolve.apply(commands.some())
+                whole = wg.graph_of(json.loads(resolve.text))
+                self.assertEqual(resolve.graph, whole, seed)
+                if before is not None and before == whole:
+                    self.assertIs(resolve.graph, before)
+
+    def test_what_was_not_read_is_read_again(self):
+        resolve = wg.Resolve()
+        resolve.apply([push(wg.UnresolvedPackage("a:b"))])
+        written = resolve._open.write_new
+        for stop in range(2):
+            resolve.apply([push(wg.UnresolvedPackage(f"c:d{stop}"))])
+            resolve._open.write_new = lambda: written() and None
+            with self.assertRaises(TypeError):
+                resolve.graph
+            resolve._open.write_new = written
+            resolve.apply([push(wg.UnresolvedPackage(f"e:f{stop}"))])
+            self.assertEqual(len(resolve.graph.packages), 2 * stop + 3)
+            self.assertEqual(resolve.graph, wg.graph_of(json.loads(resolve.text)))
+
+
+class Commands:
+    """Commands at random, of which many change what is there."""
+
+    def __init__(self, chosen):
+        self.chosen, self.names = chosen, []
+
+    def package(self):
+        """A package of interfaces, and of worlds that import and export them, with a file."""
+        chosen = self.chosen
+        name = f"a:p{chosen.randrange(4)}@1.{chosen.randrange(3)}.0"
+        self.names.append(name)
+        interfaces, types, worlds = [], [], []
+        for number in range(chosen.randint(1, 3)):
+            it = wg.TypeId(len(types))
+            fields = [wg.Field("a", "u8", None, (2, 3))] if chosen.random() < 0.7 else [wg.Field("b", "u16")]
+            types.append(wg.TypeDef("t", wg.Record(fields), wg.InterfaceOwner(wg.InterfaceId(number)), span=(0, 1)))
+            call = wg.Function("f", "freestanding", [wg.Param("x", it)], it)
+            interfaces.append(wg.Interface(f"i{number}", {"t": it}, {"f": call} if chosen.random() < 0.8 else {}))
+        for number in range(chosen.randint(0, 2)):
+            keys = [f"interface-{it}" for it in range(len(interfaces))]
+            sides = [{it: wg.InterfaceItem(wg.InterfaceId(n)) for n, it in enumerate(keys) if chosen.random() < 0.5} for _ in range(2)]
+            worlds.append(wg.World(f"w{number}", *sides))
+        made = wg.UnresolvedPackage(name, worlds=worlds, interfaces=interfaces, types=types)
+        return wg.UnresolvedPackageGroup(made, [], [wg.Source(f"{name}.wit", "a file\n")])
+
+    def change(self):
+        chosen = self.chosen
+        name = chosen.choice([*self.names, "no:package"])
+        world = f"w{chosen.randrange(2)}"
+        pushed = wg.PushGroups(self.package())
+        return chosen.choice([
+            pushed, pushed, pushed, pushed,
+            wg.Importize(name, world, chosen.choice([None, "v", "w1"])),
+            wg.Exportize(name, world, chosen.choice([None, "v"]), chosen.choice([None, [], [f"{name.split('@')[0]}/i0@1.0.0"]])),
+            wg.Semver(name, world), wg.PackageOrder(), wg.Select([name]),
+            wg.AddFeature(f"f{chosen.randrange(3)}"), wg.SetAllFeatures(chosen.random() < 0.5), wg.SetTrackRule("with-prereleases"),
+        ])  # fmt: skip
+
+    def some(self):
+        chosen = self.chosen
+        made = [self.change() for _ in range(chosen.randint(1, 4))]
+        if chosen.random() < 0.3:
+            made.insert(chosen.randint(0, len(made)), wg.MergeGraph([self.change() for _ in range(chosen.randint(0, 3))]))
+        return made
 
 
 def least_times(*runs):
@@ -547,6 +631,9 @@ EMPTY = (
     b'{"graph":{"worlds":[],"interfaces":[],"types":[],"packages":[]},"details":{"worlds":[],"interfaces":[],"types":[]},'
     b'"features":{"all":false,"names":[]},"track-rule":"published","sources":[]}'
 )
+
+
+LISTS = "worlds", "interfaces", "types", "packages", "sources"
 
 
 @unittest.skipUnless(SHARED, "no libwitgraph.so")
@@ -569,11 +656,44 @@ class Statuses(unittest.TestCase):
         return *self.told("reply", output, room), output.value
 
     def is_closed(self):
-        self.assertEqual((self.apply(b'{"commands":[]}'), self.told("write"), self.reply(3)), ((5, 0), (5, 0), (5, 0, b"...")))
+        closed = self.apply(b'{"commands":[]}'), self.told("write"), self.told("write_new"), self.reply(3)
+        self.assertEqual(closed, ((5, 0), (5, 0), (5, 0), (5, 0, b"...")))
         self.assertEqual(self.library.witgraph_close(self.graph), 5)
 
     def has(self, text):
         self.assertEqual((self.told("write"), self.reply(len(text))), ((0, len(text)), (0, len(text), text)))
+
+    def has_new(self, begin, text):
+        """What is new, which the next call doesn't tell again."""
+        numbers = ",".join(f'"{name}":{it}' for name, it in zip(LISTS, begin))
+        new = b'{"from":{' + numbers.encode() + b"}," + text[1:]
+        self.assertEqual((self.told("write_new"), self.reply(len(new))), ((0, len(new)), (0, len(new), new)))
+
+    def test_what_is_new(self):
+        a = push(wg.UnresolvedPackage("a:b", worlds=[wg.World("w")]))
+        a.main.sources = [wg.Source("a.wit", "")]
+        world, detail = b'{"name":"w","imports":{},"exports":{},"package":0}', b'{"imports":{},"exports":{}}'
+        package, file = b'{"name":"a:b","interfaces":{},"worlds":{"w":0}}', b'{"path":"a.wit","text":""}'
+        alone = EMPTY.replace(b'"worlds":[]', b'"worlds":[%s]' % world, 1).replace(b'"packages":[]', b'"packages":[%s]' % package)
+        alone = alone.replace(b'"details":{"worlds":[]', b'"details":{"worlds":[%s]' % detail)
+        whole = alone.replace(b'"sources":[]', b'"sources":[%s]' % file)
+        self.library.witgraph_open(self.graph)
+        self.apply(wg.document_of([a]))
+        self.has_new((0, 0, 0, 0, 0), whole)
+        self.has(whole)
+        self.has_new((1, 0, 0, 1, 1), EMPTY)
+        self.apply(b'{"commands":1}')
+        self.apply(wg.document_of([wg.AddFeature("f"), wg.PackageOrder(), wg.Select(["a:b"])]))
+        named = EMPTY.replace(b'"names":[]', b'"names":["f"]')
+        self.has_new((1, 0, 0, 1, 1), named)
+        # a world that is turned is told again, with its list and that of packages; after a merge all but the files
+        self.apply(wg.document_of([wg.Importize("a:b", "w", "w")]))
+        self.has_new((0, 0, 0, 0, 1), alone.replace(b'"names":[]', b'"names":["f"]'))
+        self.apply(wg.document_of([wg.Semver("a:b", "w"), wg.MergeGraph([])]))
+        self.has_new((0, 0, 0, 0, 1), alone.replace(b'"names":[]', b'"names":["f"]'))
+        self.apply(b'{"commands":[],"resolve":' + EMPTY + b"}")
+        self.has_new((0, 0, 0, 0, 0), EMPTY)
+        self.library.witgraph_close(self.graph)
 
     def test_opened_and_closed(self):
         self.is_closed()

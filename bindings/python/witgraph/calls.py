@@ -78,9 +78,16 @@ class OpenGraph:
 
     def write(self) -> bytes:
         """The graph with what stands beside it."""
+        return self._written(self._library.witgraph_write)
+
+    def write_new(self) -> bytes:
+        """What is new of that since the last `write_new`, which isn't told again."""
+        return self._written(self._library.witgraph_write_new)
+
+    def _written(self, call: Any) -> bytes:
         needed = ctypes.c_size_t()
         with self._lock:
-            expect_memory(self._library.witgraph_write(self._handle, needed))
+            expect_memory(call(self._handle, needed))
             return self._reply(needed)
 
     def _reply(self, needed: ctypes.c_size_t) -> bytes:
@@ -111,7 +118,7 @@ class Library:
             **dict.fromkeys(("witgraph_json", "witgraph_execute", "witgraph_explain"), [*text, *output, needed]),
             **dict.fromkeys(("witgraph_open", "witgraph_close"), [handle]),
             "witgraph_apply": [handle, *text, needed],
-            "witgraph_write": [handle, needed],
+            **dict.fromkeys(("witgraph_write", "witgraph_write_new"), [handle, needed]),
             "witgraph_reply": [handle, *output, needed],
         }
         for name, types in arguments.items():

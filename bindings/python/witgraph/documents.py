@@ -1,6 +1,7 @@
 """Data as JSON (docs/JSON.md), and back: commands, replies, graphs and whole documents."""
 from __future__ import annotations
 
+import copy
 import functools
 import json
 import typing
@@ -300,3 +301,24 @@ def replies_of(output: bytes) -> list[Reply]:
 
 def graph_of_text(resolve: bytes) -> Graph:
     return graph_of(json.loads(resolve, object_pairs_hook=object_with_names))
+
+
+def take_news(graph: Graph, text: bytes) -> bool:
+    """Puts what is new of a graph into its data: each list goes on at an index. Answers whether that changes them."""
+    news = json.loads(text, object_pairs_hook=object_with_names)
+    new, is_changed = graph_of(news), False
+    for name, begin in news["from"].items():
+        kept, more = getattr(graph, name), getattr(new, name)
+        if kept[begin:] != more:
+            kept[begin:] = more
+            is_changed = True
+    for name in ("features", "all_features", "track_rule"):
+        if getattr(graph, name) != getattr(new, name):
+            setattr(graph, name, getattr(new, name))
+            is_changed = True
+    return is_changed
+
+
+def copy_of(graph: Graph) -> Graph:
+    """The graph, with lists of its own of the same things."""
+    return Graph(**{it.name: copy.copy(getattr(graph, it.name)) for it in fields(graph)})

@@ -1,13 +1,14 @@
 """A graph that stays."""
 from __future__ import annotations
 
+import threading
 from collections.abc import Iterable
 from typing import Optional
 
 from .calls import Library, library
 from .commands import AnyCommand
 from .data import Graph
-from .documents import document_of, graph_of_text, replies_of
+from .documents import copy_of, document_of, graph_of_text, replies_of, take_news
 from .replies import Done, Merge, Pushed, Refused, Reply
 
 __all__ = ["Resolve"]
@@ -27,8 +28,9 @@ class Resolve:
     """
 
     def __init__(self, graph: Optional[Graph] = None, by: Optional[Library] = None) -> None:
-        self._open = (by or library()).open_graph()
-        self._text = b""
+        self._open, self._lock = (by or library()).open_graph(), threading.Lock()
+        # what the library told, if all of it was read
+        self._told: Optional[Graph] = Graph()
         self._graph = Graph()
         self._may_differ = graph is not None
         if graph is not None:
@@ -42,19 +44,34 @@ class Resolve:
         except MemoryError:
             self._may_differ = True
             raise
-        self._may_differ |= any(isinstance(it, CHANGES) for it in replies)
+        if any(isinstance(it, CHANGES) for it in replies):
+            self._may_differ = True
         return replies
 
     @property
     def graph(self) -> Graph:
-        """The data of the graph, read when you look at it, and kept until a command changes something. If you change
-        these data, the graph stays as it is."""
-        if self._may_differ:
-            text = self.text
-            if text != self._text:
-                self._text, self._graph = text, graph_of_text(text)
-            self._may_differ = False
-        return self._graph
+        """The data of the graph, kept until a command changes something. When you then look at them, what is new alone is
+        read. If you change these lists, the graph stays as it is. Don't change what is in them: later data share it."""
+        with self._lock:
+            if self._may_differ:
+                self._may_differ = False
+                self._read()
+            return self._graph
+
+    def _read(self) -> None:
+        """Reads what is new. The library doesn't tell that again, so if it isn't read to its end, the next look reads all."""
+        told, self._told = self._told, None
+        try:
+            news = self._open.write_new()
+            if told is None:
+                told = graph_of_text(self._open.write())
+                self._graph = copy_of(told)
+            elif take_news(told, news):
+                self._graph = copy_of(told)
+            self._told = told
+        finally:
+            if self._told is None:
+                self._may_differ = True
 
     @property
     def text(self) -> bytes:

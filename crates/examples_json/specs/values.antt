@@ -4,6 +4,7 @@ pub mod Functions
 pub mod Worlds
 pub mod Graphs
 pub mod Details
+pub mod News
 pub mod Refusals
 pub mod ReadValues
 pub mod ReadTypes

@@ -3,6 +3,7 @@ ghost use Rattle.examples_json.specs.values.Details.{ExamplesOfDetails, Examples
 ghost use Rattle.examples_json.specs.values.Gates.{ExamplesOfGates};
 ghost use Rattle.examples_json.specs.values.Functions.{ExamplesOfFunctions};
 ghost use Rattle.examples_json.specs.values.Graphs.{ExamplesOfGraphs};
+ghost use Rattle.examples_json.specs.values.News.{ExamplesOfNews};
 ghost use Rattle.examples_json.specs.values.ReadTypes.{ExamplesOfReadFunctions, ExamplesOfReadKinds, ExamplesOfReadTypes};
 ghost use Rattle.examples_json.specs.values.ReadValues.{ExamplesOfReadGates, ExamplesOfReadValues};
 ghost use Rattle.examples_json.specs.values.ReadCommands.{ExamplesOfReadChanges, ExamplesOfReadQuestions};
@@ -55,6 +56,11 @@ pub fn examples_of_details()
 /// Features, files, and a graph with all that stands beside it.
 pub fn examples_of_wholes()
     ensures { ExamplesOfWholes }
+{}
+
+/// What is new of such a graph.
+pub fn examples_of_news()
+    ensures { ExamplesOfNews }
 {}
 
 /// Refusals.

@@ -8,6 +8,7 @@ pub mod Details
 pub mod Refusals
 pub mod Unresolved
 pub mod Whole
+pub mod News
 pub mod Groups
 pub mod steps
 pub mod facts

@@ -70,6 +70,18 @@ impl JsonText {
         value.write_details(self)
     }
 
+    /// Writes what is left out of each of some things.
+    pub(crate) fn details_list<T: WriteDetails>(&mut self, items: &[T]) -> Result<(), AllocError>
+        ensures { OnOk result
+            (self.new ≡ self.old ++ json_tokens (list_of T.details items.now)) }
+    {
+        self.begin_array()?;
+        for item in items {
+            item.write_details(self)?;
+        }
+        self.end_array()
+    }
+
     /// Writes the spans of the fields, the flags or the cases of a type that has some.
     fn parts(&mut self, kind: &TypeDefKind) -> Result<(), AllocError>
         ensures { OnOk result (Adds self.old self.new (parts_member kind.now)) }
@@ -88,11 +100,7 @@ impl<T: WriteDetails> WriteDetails for Items<T> {
     ghost details = { list_of T.details };
 
     fn write_details(&self, out: &mut JsonText) -> Result<(), AllocError> {
-        out.begin_array()?;
-        for item in self.as_slice() {
-            item.write_details(out)?;
-        }
-        out.end_array()
+        out.details_list(self.as_slice())
     }
 }
 

@@ -69,7 +69,7 @@ impl WriteJson for Features {
 
 impl JsonText {
     /// Writes a file.
-    fn file(&mut self, path: &str, text: &str) -> Result<(), AllocError>
+    pub(crate) fn file(&mut self, path: &str, text: &str) -> Result<(), AllocError>
         ensures { OnOk result
             (self.new ≡ self.old ++ json_tokens (json_of_file (path.now, text.now))) }
     {

@@ -14,6 +14,7 @@ ghost use Rattle.wit_script.specs.Prints.{Prints};
 ghost use Rattle.wit_script_explain.specs.Explained.{Explains};
 ghost use Rattle.witgraph_c.specs.Handles.{StaysOpen};
 ghost use Rattle.witgraph_calls.specs.Graphs.{Applies, text_of_state};
+ghost use Rattle.witgraph_calls.specs.News.{LeavesTold, text_of_news, told_all, told_nothing};
 ghost use Rattle.witgraph_calls.specs.Output.{HasFront, IsTooLong, IsWritten};
 
 use crate::handle::Handle;
@@ -97,7 +98,8 @@ pub extern "C" fn witgraph_json(
 pub extern "C" fn witgraph_open(alloc: Global, graph: &mut Handle) -> u32
     ensures status { (result ≡ UNDERSTOOD) ⊎ (result ≡ NO_MEMORY) }
     ensures opened { result ≡ UNDERSTOOD → IsSomeAnd graph.new.session
-        (λ session. (session.resolve ≡ new_state) × (string_bytes session.reply ≡ [])) }
+        (λ session. (session.resolve ≡ new_state) × (session.told ≡ told_nothing)
+        × (string_bytes session.reply ≡ [])) }
     ensures kept { result ≡ NO_MEMORY → graph.new.session ≡ graph.old.session }
 {
     match Box::new(alloc, Session::new(alloc)) {
@@ -125,19 +127,23 @@ pub extern "C" fn witgraph_apply(
         (λ old new. needed.new ≡ length (string_bytes new.reply)) }
     ensures understood { result ≡ UNDERSTOOD → IsUtf8 input.now
         × StaysOpen graph.old.session graph.new.session
-        (λ old new. Applies old.resolve input.now new.resolve (string_bytes new.reply)) }
+        (λ old new. Applies old.resolve input.now new.resolve (string_bytes new.reply)
+        × LeavesTold input.now old.told new.told) }
     ensures not_understood { result ≡ NOT_UNDERSTOOD → IsUtf8 input.now
         × StaysOpen graph.old.session graph.new.session
-        (λ old new. (new.resolve ≡ old.resolve) × TellsFault input.now (string_bytes new.reply)) }
+        (λ old new. (new.resolve ≡ old.resolve) × (new.told ≡ old.told)
+        × TellsFault input.now (string_bytes new.reply)) }
     ensures utf8 { result ≡ INPUT_NOT_UTF8 → (IsUtf8 input.now → ⊥)
         × StaysOpen graph.old.session graph.new.session
-        (λ old new. (new.resolve ≡ old.resolve) × (string_bytes new.reply ≡ [])) }
+        (λ old new. (new.resolve ≡ old.resolve) × (new.told ≡ old.told)
+        × (string_bytes new.reply ≡ [])) }
     ensures memory { result ≡ NO_MEMORY → IsUtf8 input.now
         × StaysOpen graph.old.session graph.new.session
-        (λ old new. (new.resolve ≡ old.resolve) × (string_bytes new.reply ≡ [])) }
+        (λ old new. (new.resolve ≡ old.resolve) × (new.told ≡ old.told)
+        × (string_bytes new.reply ≡ [])) }
     ensures cut { result ≡ CUT_SHORT → IsUtf8 input.now
         × StaysOpen graph.old.session graph.new.session
-        (λ old new. string_bytes new.reply ≡ []) }
+        (λ old new. (new.told ≡ told_nothing) × (string_bytes new.reply ≡ [])) }
 {
     match graph.take(alloc) {
         Some(mut session) => {
@@ -159,7 +165,7 @@ pub extern "C" fn witgraph_write(alloc: Global, graph: &mut Handle, needed: &mut
     ensures closed { result ≡ NO_GRAPH
         → (graph.old.session ≡ None) × (graph.new.session ≡ None) × (needed.new ≡ 0) }
     ensures kept { (result ≡ NO_GRAPH → ⊥) → StaysOpen graph.old.session graph.new.session
-        (λ old new. (new.resolve ≡ old.resolve)
+        (λ old new. (new.resolve ≡ old.resolve) × (new.told ≡ old.told)
         × (needed.new ≡ length (string_bytes new.reply))) }
     ensures written { result ≡ UNDERSTOOD → StaysOpen graph.old.session graph.new.session
         (λ old new. string_bytes new.reply ≡ text_of_state new.resolve) }
@@ -169,6 +175,34 @@ pub extern "C" fn witgraph_write(alloc: Global, graph: &mut Handle, needed: &mut
     match graph.take(alloc) {
         Some(mut session) => {
             let status = session.write(alloc, needed);
+            graph.put(session);
+            status
+        }
+        None => {
+            *needed = 0;
+            NO_GRAPH
+        }
+    }
+}
+
+/// `Session::write_new` of `witgraph_calls` on the graph that is open: what is new of it since the last such call.
+#[unsafe(no_mangle)]
+pub extern "C" fn witgraph_write_new(alloc: Global, graph: &mut Handle, needed: &mut usize) -> u32
+    ensures status { (result ≡ UNDERSTOOD) ⊎ (result ≡ NO_MEMORY) ⊎ (result ≡ NO_GRAPH) }
+    ensures closed { result ≡ NO_GRAPH
+        → (graph.old.session ≡ None) × (graph.new.session ≡ None) × (needed.new ≡ 0) }
+    ensures kept { (result ≡ NO_GRAPH → ⊥) → StaysOpen graph.old.session graph.new.session
+        (λ old new. (new.resolve ≡ old.resolve)
+        × (needed.new ≡ length (string_bytes new.reply))) }
+    ensures written { result ≡ UNDERSTOOD → StaysOpen graph.old.session graph.new.session
+        (λ old new. (string_bytes new.reply ≡ text_of_news old.told new.resolve)
+        × (new.told ≡ told_all new.resolve)) }
+    ensures memory { result ≡ NO_MEMORY → StaysOpen graph.old.session graph.new.session
+        (λ old new. (new.told ≡ old.told) × (string_bytes new.reply ≡ [])) }
+{
+    match graph.take(alloc) {
+        Some(mut session) => {
+            let status = session.write_new(alloc, needed);
             graph.put(session);
             status
         }

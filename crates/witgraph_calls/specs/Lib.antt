@@ -1,3 +1,4 @@
 pub mod Graphs
+pub mod News
 pub mod Output
 pub mod laws

@@ -1,1 +1,2 @@
 pub mod GoesOn
+pub mod ToldStands

@@ -1,17 +1,19 @@
 //! Documents that are carried out on a graph that stays.
-ghost use Rattle.std.specs.Prelude.{◌≡◌, ◌⊎◌, ◌≤◌, [], ℕ, Err, IfErr, IfOk, IfSome, OnErr, OnOk, Some, string_bytes};
+ghost use Rattle.std.specs.Prelude.{◌≡◌, ◌⊎◌, ◌≤◌, [], ℕ, Err, IfErr, IfOk, IfSome, MatchOption, OnErr, OnOk, Some, string_bytes};
 ghost use Rattle.std.specs.Str.{IsUtf8};
 ghost use Rattle.wit_json.specs.Graph.{compact};
 ghost use Rattle.wit_json_commands.specs.Documents.{BeginsValid, TellsFault};
 ghost use Rattle.wit_json_commands.specs.Output.{json_of_fault};
 ghost use Rattle.wit_json_commands.specs.steps.Outcomes.{Begins, TellsFaultOf};
 ghost use Rattle.witgraph_calls.specs.Graphs.{Applies, Replies, start_for, json_of_replies, text_of_state};
+ghost use Rattle.witgraph_calls.specs.News.{LeavesTold, told_nothing};
 
+use crate::news::{NOTHING, told_after};
 use crate::status::{
     CUT_SHORT, INPUT_NOT_UTF8, NO_GRAPH, NO_MEMORY, NOT_UNDERSTOOD, OUTPUT_TOO_SMALL, UNDERSTOOD,
 };
 use std::alloc::{AllocError, Global};
-use wit_json::{JsonText, whole_to_json};
+use wit_json::{JsonText, Told, whole_to_json};
 use wit_json_commands::{
     Document, Order, Response, fault_text, no_valid_graph, responses_to, without_long_answers,
 };
@@ -19,8 +21,9 @@ use wit_json_graphs::ResolveParts;
 use wit_json_reading::{Fault, ReadError, read_text};
 use wit_resolve_graph::{Items, Resolve};
 
-/// Carries out a document on a graph: the status, and the replies or the fault of a document that isn't understood.
-pub fn answer(alloc: Global, resolve: &mut Resolve, input: &[u8]) -> (u32, String)
+/// Carries out a document on a graph, of which so much was told: the status, and the replies or the fault of a document that
+/// isn't understood.
+pub fn answer(alloc: Global, resolve: &mut Resolve, told: &mut Told, input: &[u8]) -> (u32, String)
     ensures status { result.0 ≤ CUT_SHORT }
     ensures small { result.0 ≡ OUTPUT_TOO_SMALL → ⊥ }
     ensures closed { result.0 ≡ NO_GRAPH → ⊥ }
@@ -32,11 +35,14 @@ pub fn answer(alloc: Global, resolve: &mut Resolve, input: &[u8]) -> (u32, Strin
     ensures memory { NO_MEMORY ≤ result.0 → IsUtf8 input.now }
     ensures kept { NOT_UNDERSTOOD ≤ result.0 → result.0 ≤ NO_MEMORY → resolve.new ≡ resolve.old }
     ensures none { INPUT_NOT_UTF8 ≤ result.0 → string_bytes result.1 ≡ [] }
+    ensures left { result.0 ≡ UNDERSTOOD → LeavesTold input.now told.old told.new }
+    ensures told { NOT_UNDERSTOOD ≤ result.0 → result.0 ≤ NO_MEMORY → told.new ≡ told.old }
+    ensures nothing { result.0 ≡ CUT_SHORT → told.new ≡ told_nothing }
 {
     let Ok(text) = str::from_utf8(input) else {
         return (INPUT_NOT_UTF8, String::new(alloc));
     };
-    match carry_out_on(alloc, resolve, text) {
+    match carry_out_on(alloc, resolve, told, text) {
         Ok(Some(replies)) => (UNDERSTOOD, replies),
         Ok(None) => (CUT_SHORT, String::new(alloc)),
         Err(ReadError::Fault(fault)) => tell(alloc, text, &fault),
@@ -45,20 +51,32 @@ pub fn answer(alloc: Global, resolve: &mut Resolve, input: &[u8]) -> (u32, Strin
 }
 
 /// The replies to the commands of a document, which are carried out on a graph, or on the document's own, which takes its
-/// place. None where memory is wanted on the way. An error comes before any command.
+/// place. None where memory is wanted on the way, and then nothing is left of what was told. An error comes before any command.
 fn carry_out_on(
     alloc: Global,
     resolve: &mut Resolve,
+    told: &mut Told,
     text: &str,
 ) -> Result<Option<String>, ReadError>
-    ensures ok { IfOk result (λ made. IfSome made
-        (λ replies. Applies resolve.old text.now resolve.new (string_bytes replies))) }
+    ensures ok { IfOk result (λ made. MatchOption made (told.new ≡ told_nothing) (λ replies.
+        Applies resolve.old text.now resolve.new (string_bytes replies)
+        × LeavesTold text.now told.old told.new)) }
     ensures cause { IfErr result (TellsFaultOf text.now) }
-    ensures kept { OnErr result (resolve.new ≡ resolve.old) }
+    ensures kept { OnErr result ((resolve.new ≡ resolve.old) × (told.new ≡ told.old)) }
 {
     let document: Document = read_text(alloc, text)?;
+    let left = told_after(*told, &document);
     begin_with(alloc, resolve, document.resolve)?;
-    Ok(reply(alloc, resolve, document.commands))
+    match reply(alloc, resolve, document.commands) {
+        Some(replies) => {
+            *told = left;
+            Ok(Some(replies))
+        }
+        None => {
+            *told = NOTHING;
+            Ok(None)
+        }
+    }
 }
 
 /// Puts the graph of a document, if it has one, in the place of another one.

@@ -1,5 +1,6 @@
 //! Laws of a graph that stays: the contract of each function is what is proved.
 ghost use Rattle.witgraph_calls.specs.laws.GoesOn.{DocumentsGoOn};
+ghost use Rattle.witgraph_calls.specs.laws.ToldStands.{AllStands, NewsComplete, NothingStands, ToldStands};
 
 use wit_json_commands::laws::runs_go_on;
 
@@ -10,3 +11,15 @@ pub fn documents_go_on()
 {
     runs_go_on();
 }
+
+/// What `write_new` told stands as long as the session says so, whatever documents come between.
+pub fn what_was_told_stands()
+    ensures all { AllStands }
+    ensures nothing { NothingStands }
+    ensures after { ToldStands }
+{}
+
+/// What was told and still stands makes, with what is new, each list of the graph.
+pub fn news_complete_what_was_told()
+    ensures { NewsComplete }
+{}

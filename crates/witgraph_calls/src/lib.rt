@@ -9,6 +9,7 @@ mod execution;
 mod explanation;
 mod graphs;
 pub mod laws;
+mod news;
 mod output;
 mod session;
 mod status;

@@ -147,6 +147,44 @@ fn told_of(rt: &impl Abort, alloc: Global, session: &mut Session, document: &[u8
     format!(in alloc; "{status} {needed} {reply}").expect(rt, "memory")
 }
 
+/// What is told of what is new.
+fn told_new(rt: &impl Abort, alloc: Global, session: &mut Session) -> String {
+    let mut needed = 77;
+    let status = session.write_new(alloc, &mut needed);
+    let reply = session.reply.as_str();
+    format!(in alloc; "{status} {needed} {reply}").expect(rt, "memory")
+}
+
+#[test]
+fn what_is_new_is_told_once(rt: HostRuntime) {
+    let alloc = rt.alloc();
+    let mut session = Session::new(alloc);
+    for wanted in [WITH_A_PACKAGE, WITHOUT_IT] {
+        told_of(&rt, alloc, &mut session, A_PACKAGE);
+        assert_text(&rt, told_new(&rt, alloc, &mut session), wanted);
+    }
+}
+
+/// A document that pushes a package without parts.
+const A_PACKAGE: &[u8] =
+    b"{\"commands\":[{\"push-groups\":{\"deps\":[],\"main\":{\"nested\":[],\"sources\":[],\
+    \"main\":{\"name\":\"a:b\",\"worlds\":[],\"interfaces\":[],\"types\":[],\"foreign-deps\":{},\
+    \"foreign-dep-spans\":[],\"unknown-type-spans\":[],\"required-resources\":[]}}}}]}";
+
+/// What is new once it is carried out, and once it is refused.
+const WITH_A_PACKAGE: &str =
+    "0 307 {\"from\":{\"worlds\":0,\"interfaces\":0,\"types\":0,\"packages\":0,\"sources\":0},\
+    \"graph\":{\"worlds\":[],\"interfaces\":[],\"types\":[],\
+    \"packages\":[{\"name\":\"a:b\",\"interfaces\":{},\"worlds\":{}}]},\
+    \"details\":{\"worlds\":[],\"interfaces\":[],\"types\":[]},\"features\":{\"all\":false,\"names\":[]},\
+    \"track-rule\":\"published\",\"sources\":[]}";
+
+const WITHOUT_IT: &str =
+    "0 262 {\"from\":{\"worlds\":0,\"interfaces\":0,\"types\":0,\"packages\":1,\"sources\":0},\
+    \"graph\":{\"worlds\":[],\"interfaces\":[],\"types\":[],\"packages\":[]},\
+    \"details\":{\"worlds\":[],\"interfaces\":[],\"types\":[]},\"features\":{\"all\":false,\"names\":[]},\
+    \"track-rule\":\"published\",\"sources\":[]}";
+
 #[test]
 fn a_graph_stays_between_documents(rt: HostRuntime) {
     let mut session = Session::new(rt.alloc());
