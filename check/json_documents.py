@@ -7,8 +7,9 @@ PROGRAM reads a document from standard input and writes the one that comes out: 
 none is named. A case is a line `=== NAME`, a document, a line `---` and what is to come out.
 
 In `check/json_faults.txt` that is the path of a fault and what was expected there. The document has a mark `«` where the value
-begins at which the fault is: as many bytes stand before it as the offset tells. Of a member that isn't there, docs/JSON.md tells
-no place: such a document has no mark, and the offset is one of its bytes or its end.
+begins at which the fault is, or where it stops being JSON: as many bytes stand before it as the offset tells, and the line and
+the column are those of the mark. Of a member that isn't there, docs/JSON.md tells no place: such a document has no mark, and the
+fault is at one of its characters or its end.
 
 In `check/json_answers.txt` it is a value. What comes out has its members, objects with more than it tells; entries of tables
 stand in its order; and where it has texts in place of one, that has each of them. With `"same"` the graph that the document
@@ -44,12 +45,19 @@ def compact(value):
     return json.dumps(value, separators=(",", ":"), ensure_ascii=False)
 
 
+def place_behind(text):
+    """The place behind a text as a fault tells it: bytes from 0, a line from 1, its column in characters from 1."""
+    line = text.rpartition("\n")[2]
+    return {"offset": len(text.encode()), "line": text.count("\n") + 1, "column": len(line) + 1}
+
+
 def faults_of(document, expected):
     """A document without its mark, and the faults of which one comes out: one alone, but for where it is without a mark."""
     before, mark, after = document.partition(MARK)
     path, at = json.JSONDecoder().raw_decode(expected)
-    places = [len(before.encode())] if mark else range(len(document.encode()) + 1)
-    return before + after, [compact({"fault": {"path": path, "offset": it, "expected": expected[at + 1:]}}) for it in places]
+    texts = [before] if mark else [document[:it] for it in range(len(document) + 1)]
+    faults = [{"path": path, **place_behind(it), "expected": expected[at + 1:]} for it in texts]
+    return before + after, [compact({"fault": it}) for it in faults]
 
 
 def is_in(expected, told, is_table=False):

@@ -287,7 +287,7 @@ def wrong(text, status, out):
         return "not compact, or a name stands twice in an object"
     if status == 1:
         fault = output["fault"]
-        return None if set(output) == {"fault"} and set(fault) == {"path", "offset", "expected"} and fault["offset"] <= len(text) else "fault"
+        return None if set(output) == {"fault"} and set(fault) == {"path", "offset", "line", "column", "expected"} and fault["offset"] <= len(text) else "fault"
     asked = json.loads(text)
     return None if len(output["replies"]) == len(asked["commands"]) and set(output) == {"replies", "resolve"} else "replies"
 

@@ -37,7 +37,7 @@ RUNS = {
     ],
     "witgraph_json": [
         ([], DOCUMENT, True, 0, OUT),
-        ([], b"[]", True, 1, b'{"fault":{"path":[],"offset":0,"expected":"an object"}}'),
+        ([], b"[]", True, 1, b'{"fault":{"path":[],"offset":0,"line":1,"column":1,"expected":"an object"}}'),
         ([], b'{"commands":["\xff"]}', True, 1, b"", b"witgraph_json: the document isn't UTF-8\n"),
         ([], None, True, 1, b"", b"witgraph_json: the document can't be read\n"),
         ([], DOCUMENT, False, 1, b"", b"witgraph_json: the output can't be written\n"),

@@ -32,7 +32,8 @@ enum {
    * them. */
   WITGRAPH_UNDERSTOOD = 0,
   /* The call didn't understand the script or the document, and didn't run it. For a script the output is one line, `line
-   * N: not understood`; witgraph_explain writes that line with the reason. For a document it is the first fault. */
+   * N: not understood`; witgraph_explain writes that line with the reason. For a document it is the first fault with its
+   * place: {"fault": {"path": [..], "offset": 29, "line": 1, "column": 30, "expected": "a text"}}. */
   WITGRAPH_NOT_UNDERSTOOD = 1,
   /* The output is too short: nothing is written, and *needed is the number of bytes that it needs. Call again with as
    * many. */

@@ -56,7 +56,7 @@ def a_refusal():
 def one_of_each_error():
     """An error of each class, and its text."""
     return [
-        (wg.Fault(["commands", 0], 13, "a command"), "expected a command at byte 13, at commands[0]"),
+        (wg.Fault(["commands", 0], 14, 2, 3, "a command"), "expected a command at line 2, column 3, at commands[0]"),
         (wg.NotUnderstood(2, "line 2: not understood"), "line 2: not understood"),
         (wg.ProgramFailed("./p", 1, "no memory\n"), "./p ended with status 1: no memory"),
         (wg.ProgramFailed("./p", -9, ""), "./p was ended by signal 9: nothing on standard error"),
@@ -189,8 +189,10 @@ class Documents(unittest.TestCase):
 
     def test_a_fault_is_raised(self):
         with self.assertRaises(wg.Fault) as raised:
-            wg.run_of('{"fault": {"path": ["commands", 0], "offset": 13, "expected": "a command"}}')
-        self.assertEqual(str(raised.exception), "expected a command at byte 13, at commands[0]")
+            wg.run_of('{"fault": {"path": [], "offset": 14, "line": 2, "column": 3, "expected": "`:`"}}')
+        fault = raised.exception
+        self.assertEqual((fault.path, fault.offset, fault.line, fault.column, fault.expected), ([], 14, 2, 3, "`:`"))
+        self.assertEqual(str(fault), "expected `:` at line 2, column 3")
 
     def test_a_package_without_its_shape_is_raised(self):
         parts = {"path": ["deps", 0, "nested", 1], "clause": "lengths", "place": "unknown_type_spans", "text": "so many"}
@@ -711,7 +713,7 @@ class Statuses(unittest.TestCase):
         for room, told in ((19, (2, 20, 19 * b".")), (20, (0, 20, b'{"replies":["done"]}')), (21, (0, 20, b'{"replies":["done"]}.'))):
             self.assertEqual(self.reply(room), told)
         named = EMPTY.replace(b'"names":[]', b'"names":["f"]')
-        fault = b'{"fault":{"path":["commands"],"offset":12,"expected":"a list"}}'
+        fault = b'{"fault":{"path":["commands"],"offset":12,"line":1,"column":13,"expected":"a list"}}'
         self.assertEqual((self.apply(b'{"commands":1}'), self.reply(len(fault))), ((1, len(fault)), (0, len(fault), fault)))
         self.assertEqual((self.apply(b"push\xff"), self.reply(1)), ((3, 0), (0, 0, b".")))
         unnamed = EMPTY.replace(b'"packages":[]', b'"packages":[{"name":"a:b","interfaces":{"i":0},"worlds":{}}]')

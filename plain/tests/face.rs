@@ -373,10 +373,12 @@ fn graphs_are_read_as_they_are_written() {
 
 #[test]
 fn a_fault_of_a_text_has_its_place() {
-    let text = r#"{"graph": {"worlds": [], "interfaces": [], "types": [], "packages": [7]}}"#;
+    let text = "{\"graph\": {\"worlds\": [], \"interfaces\": [], \"types\": [],\n \"packages\": [7]}}";
     let fault = Resolve::from_json(text).expect_err("a number is no package");
     assert_eq!(fault.offset(), text.find('7').expect("a number"));
-    assert!(fault.to_string().starts_with("$.graph.packages[0]: "), "{fault}");
+    assert_eq!((fault.line(), fault.column()), (2, 15));
+    assert_eq!(fault.expected(), "an object");
+    assert_eq!(fault.to_string(), "$.graph.packages[0]: expected an object (line 2, column 15)");
 }
 
 #[cfg(feature = "serde")]

@@ -85,20 +85,21 @@ fn texts_are_escaped_as_short_as_they_can_be() {
 #[test]
 fn a_fault_is_told_where_it_stands() {
     let texts = [
-        ("", 0),
-        ("{", 1),
-        ("[1,]", 3),
-        ("{} 1", 3),
-        ("{\"a\" 1}", 5),
-        ("{\"a\":01}", 5),
-        ("[\"\\ud800\"]", 1),
-        ("[\"\u{1}\"]", 1),
-        ("[1\"\"]", 1),
-        ("[tru]", 1),
+        ("", 0, "a value before the text ends"),
+        ("{", 1, "a name in quotes or `}` before the text ends"),
+        ("[1,]", 3, "a value"),
+        ("{} 1", 3, "the end of the text"),
+        ("{\"a\" 1}", 5, "`:`"),
+        ("{\"a\":01}", 6, "`,` or `}`"),
+        ("[\"\\ud800\"]", 8, "the second half of a surrogate pair"),
+        ("[\"\u{1}\"]", 2, "a closing quote, or a character that isn't a control character"),
+        ("[1\"\"]", 2, "`,` or `]`"),
+        ("[tru]", 4, "`true`"),
     ];
-    for (text, offset) in texts {
+    for (text, offset, expected) in texts {
         let done = run(WITGRAPH_JSON, &[], text.as_bytes());
-        let wanted = format!("{{\"fault\":{{\"path\":[],\"offset\":{offset},\"expected\":\"a JSON value and nothing else\"}}}}");
+        let place = format!("\"offset\":{offset},\"line\":1,\"column\":{}", offset + 1);
+        let wanted = format!("{{\"fault\":{{\"path\":[],{place},\"expected\":\"{expected}\"}}}}");
         assert_eq!(String::from_utf8_lossy(&done.stdout), wanted, "{text}");
         assert_eq!(done.status.code(), Some(1));
     }

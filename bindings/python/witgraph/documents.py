@@ -280,7 +280,7 @@ def object_with_names(members: list[tuple[str, Any]]) -> dict[str, Any]:
 
 
 def fault_of(value: dict[str, Any]) -> Fault:
-    return Fault(*(value["fault"][it] for it in ("path", "offset", "expected")))
+    return Fault(*(value["fault"][it] for it in ("path", "offset", "line", "column", "expected")))
 
 
 def run_of(output: Union[str, bytes]) -> Run:

@@ -25,14 +25,19 @@ class Error(Exception):
 
 
 class Fault(Error):
-    """A document of commands that can't be read: `path`, `offset` and what was `expected` there."""
+    """A document of commands that can't be read: the `path` to a value, its place, and what was `expected` there.
 
-    def __init__(self, path: Path, offset: int, expected: str):
-        super().__init__(path, offset, expected)
-        self.path, self.offset, self.expected = path, offset, expected
+    The place is where the value begins, or where the document stops being JSON. `offset` counts the bytes before it. `line` and
+    `column` are from 1; the column counts characters.
+    """
+
+    def __init__(self, path: Path, offset: int, line: int, column: int, expected: str):
+        super().__init__(path, offset, line, column, expected)
+        self.path, self.offset, self.line, self.column, self.expected = path, offset, line, column, expected
 
     def __str__(self) -> str:
-        return f"expected {self.expected} at byte {self.offset}, at {path_text(self.path)}"
+        told = f"expected {self.expected} at line {self.line}, column {self.column}"
+        return f"{told}, at {path_text(self.path)}" if self.path else told
 
 
 class NotUnderstood(Error):

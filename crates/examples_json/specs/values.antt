@@ -11,3 +11,4 @@ pub mod ReadTypes
 pub mod ReadWorlds
 pub mod ReadGraphs
 pub mod ReadCommands
+pub mod Stops

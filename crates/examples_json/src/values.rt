@@ -12,6 +12,7 @@ ghost use Rattle.examples_json.specs.values.ReadWorlds.{ExamplesOfReadPackages, 
 ghost use Rattle.examples_json.specs.values.Refusals.{ExamplesOfRefusals};
 ghost use Rattle.examples_json.specs.values.Types.{ExamplesOfKinds, ExamplesOfTypes};
 ghost use Rattle.examples_json.specs.values.Worlds.{ExamplesOfInterfaces, ExamplesOfWorlds};
+ghost use Rattle.examples_json.specs.values.Stops.{ExamplesOfStops};
 
 /// Docs, and gates with and without deprecations.
 pub fn examples_of_gates()
@@ -126,4 +127,9 @@ pub fn examples_of_read_changes()
 /// What questions and documents are read from.
 pub fn examples_of_read_questions()
     ensures { ExamplesOfReadQuestions }
+{}
+
+/// Where texts stop being JSON.
+pub fn examples_of_stops()
+    ensures { ExamplesOfStops }
 {}

@@ -5,7 +5,7 @@ use std::process::Abort;
 use wit_data::TypeDef;
 use wit_graph_data::Graph;
 use wit_json::graph_to_json;
-use wit_json_reading::{ReadError, offset_of, read_text};
+use wit_json_reading::{ReadError, place_of, read_text};
 
 /// What a text reads as, as it is written in a graph with this type alone, or the fault.
 fn read_type(rt: &impl Abort, alloc: Global, text: &str) -> String {
@@ -67,8 +67,11 @@ fn types_are_read(rt: HostRuntime) {
 #[test]
 fn faults_of_types_are_told(rt: HostRuntime) {
     for (text, wanted) in [
-        ("{", "$: expected a JSON value and nothing else"),
-        ("{} {}", "$: expected a JSON value and nothing else"),
+        (
+            "{",
+            "$: expected a name in quotes or `}` before the text ends",
+        ),
+        ("{} {}", "$: expected the end of the text"),
         ("[]", "$: expected an object"),
         ("{}", "$.name: expected a member of this name"),
         (
@@ -136,29 +139,80 @@ fn faults_of_types_are_told(rt: HostRuntime) {
     }
 }
 
-/// Where the fault of a text begins, and past its end where it has none.
-fn fault_offset(rt: &impl Abort, alloc: Global, text: &str) -> usize {
+/// Where the fault of a text is, and what was expected there; where it has none, that.
+fn fault_of(rt: &impl Abort, alloc: Global, text: &str) -> String {
     let read: Result<TypeDef, ReadError> = read_text(alloc, text);
     match read {
-        Ok(_) => text.len() + 1,
-        Err(ReadError::OutOfMemory) => text.len() + 1,
-        Err(ReadError::Fault(fault)) => offset_of(alloc, text, &fault).expect(rt, "memory"),
+        Ok(_) | Err(ReadError::OutOfMemory) => String::from_str(alloc, "none").expect(rt, "memory"),
+        Err(ReadError::Fault(fault)) => {
+            let place = place_of(alloc, text, &fault).expect(rt, "memory");
+            let (line, column) = (place.line, place.column);
+            let rest = text.get(place.offset..).unwrap_or("in a character");
+            let expected = fault.expected;
+            format!(in alloc; "{line}:{column} {expected}, not {rest}").expect(rt, "memory")
+        }
     }
+}
+
+/// Ends the test where the fault of a text is another one.
+fn assert_fault(rt: &impl Abort, alloc: Global, text: &str, wanted: &str) {
+    let told = fault_of(rt, alloc, text);
+    assert!(rt; told.as_str() == wanted, "{told}");
 }
 
 #[test]
 fn faults_are_placed(rt: HostRuntime) {
     for (text, wanted) in [
-        ("{\"name\":1}", "1}"),
-        ("{ \"name\" : null, \"kind\": {\"list\" : -1}}", "-1}}"),
+        ("{\"name\":1}", "1:9 a text, not 1}"),
+        (
+            "{ \"name\" : null,\n \"kind\": {\"list\" : -1}}",
+            "2:20 the name of a primitive type, or the index of a type, not -1}}",
+        ),
         (
             "{\"name\":null,\"kind\":{\"map\":[\"u8\", \"u9\"]}}",
-            "\"u9\"]}}",
+            "1:36 the name of a primitive type, or the index of a type, not \"u9\"]}}",
         ),
-        ("{\"name\":null,\"name\":true}", "true}"),
-        ("{\"name\":null,\"kind\":\"list\"}", "\"list\"}"),
+        (
+            "{\"name\":null,\n\n\"name\":true}",
+            "3:8 no second member of this name, not true}",
+        ),
+        ("{\"né\":1}", "1:7 no member of this name, not 1}"),
     ] {
-        let offset = fault_offset(&rt, rt.alloc(), text);
-        assert!(&rt; text.get(offset..) == Some(wanted), "{offset} of {text}");
+        assert_fault(&rt, rt.alloc(), text, wanted);
+    }
+}
+
+#[test]
+fn faults_of_json_are_told(rt: HostRuntime) {
+    for (text, wanted) in [
+        ("", "1:1 a value before the text ends, not "),
+        ("[,]", "1:2 a value or `]`, not ,]"),
+        ("{,}", "1:2 a name in quotes or `}`, not ,}"),
+        ("{\"a\":1,}", "1:8 a name in quotes, not }"),
+        ("{\"a\"\n1}", "2:1 `:`, not 1}"),
+        ("[1 2]", "1:4 `,` or `]`, not 2]"),
+        ("{\"a\":01}", "1:7 `,` or `}`, not 1}"),
+        ("{}\n {}", "2:2 the end of the text, not {}"),
+        (
+            "[\"é\n\"]",
+            "1:4 a closing quote, or a character that isn't a control character, not \n\"]",
+        ),
+        ("[\"\\x\"]", "1:4 an escape, not x\"]"),
+        ("[\"\\u00g0\"]", "1:7 a hexadecimal digit, not g0\"]"),
+        (
+            "[\"\\uDc00\"]",
+            "1:6 a hexadecimal digit below `c`, not c00\"]",
+        ),
+        (
+            "[\"\\ud83d\\u0000\"]",
+            "1:11 the second half of a surrogate pair, not 0000\"]",
+        ),
+        ("[-a]", "1:3 a digit, not a]"),
+        ("[1ea]", "1:4 a digit or a sign, not a]"),
+        ("[tRue]", "1:3 `true`, not Rue]"),
+        ("[fals", "1:6 `false` before the text ends, not "),
+        ("[nil]", "1:3 `null`, not il]"),
+    ] {
+        assert_fault(&rt, rt.alloc(), text, wanted);
     }
 }

@@ -5,9 +5,11 @@ use Rattle.wit_resolve_graph.specs.State.{State, new_state}
 use Rattle.wit_json.specs.Graph.{compact}
 use Rattle.wit_json_graphs.specs.declared.resolves.ResolveParts.{ResolveParts}
 use Rattle.wit_json_reading.specs.Documents.{read_from}
+use Rattle.wit_json_reading.specs.Places.{IsPlaceOf}
 use Rattle.wit_json_reading.specs.declared.fault.Expected.TheVariants as expected
 use Rattle.wit_json_reading.specs.declared.fault.Fault.{Fault}
 use Rattle.wit_json_reading.specs.declared.fault.Step.TheVariants as step
+use Rattle.wit_json_reading.specs.declared.places.FaultPlace.{FaultPlace}
 use Rattle.wit_json_commands.specs.Orders.{read_document}
 use Rattle.wit_json_commands.specs.declared.commands.orders.Document.{Document}
 use Rattle.wit_json_commands.specs.Output.{json_of_fault, json_of_output}
@@ -69,12 +71,17 @@ pub record BeginsInvalid (input : List ℕ) (fault : Fault) : Type 0 where
 abbrev pub IsFaultOf : List ℕ → Fault → Type 0
 IsFaultOf input fault = (read_from read_document input ≡ Err fault) ⊎ BeginsInvalid input fault
 
--- the fault comes out, with a place in the text
+-- a fault comes out, with its place in the document
+pub record TellsPlace (input : List ℕ) (fault : Fault) (text : List ℕ) : Type 0 where
+  pub place : FaultPlace
+  pub is_placed : IsPlaceOf input fault place
+  pub text_is : text ≡ compact (json_of_fault fault place)
+
+-- the fault of the document comes out
 pub record TellsFault (input text : List ℕ) : Type 0 where
   pub fault : Fault
-  pub offset : ℕ
   pub is_fault : IsFaultOf input fault
-  pub text_is : text ≡ compact (json_of_fault fault offset)
+  pub tells : TellsPlace input fault text
 
 -- what comes out, and whether the document is understood
 abbrev pub ComesOut : List ℕ → Bool → List ℕ → Type 0

@@ -11,6 +11,7 @@ use Rattle.wit_json_reading.specs.Messages.{expected_text}
 use Rattle.wit_json_reading.specs.declared.fault.Fault.{Fault}
 use Rattle.wit_json_reading.specs.declared.fault.Step.{Step}
 use Rattle.wit_json_reading.specs.declared.fault.Step.TheVariants as step
+use Rattle.wit_json_reading.specs.declared.places.FaultPlace.{FaultPlace}
 use Rattle.wit_json_commands.specs.Answers.{json_of_response}
 use Rattle.wit_json_commands.specs.declared.replies.answers.Response.{Response}
 
@@ -29,13 +30,15 @@ json_of_step (step.Item index) = json_of_number index
 abbrev pub json_of_path : List Step → Json
 json_of_path steps = list_of json_of_step (reverse steps)
 
--- the path to a value, the byte at which it begins, and what was expected there
-abbrev pub json_of_place : Fault → ℕ → Json
-json_of_place fault offset =
+-- the path to a value, where it begins, and what was expected there
+abbrev pub json_of_place : Fault → FaultPlace → Json
+json_of_place fault place =
     object (member (codes "path") (json_of_path fault.path)
-    ++ member (codes "offset") (json_of_number offset)
+    ++ member (codes "offset") (json_of_number place.offset)
+    ++ member (codes "line") (json_of_number place.line)
+    ++ member (codes "column") (json_of_number place.column)
     ++ member (codes "expected") (json_of_text (expected_text fault.expected)))
 
 -- why a document can't be read
-abbrev pub json_of_fault : Fault → ℕ → Json
-json_of_fault fault offset = tagged (codes "fault") (json_of_place fault offset)
+abbrev pub json_of_fault : Fault → FaultPlace → Json
+json_of_fault fault place = tagged (codes "fault") (json_of_place fault place)

@@ -49,7 +49,7 @@ use Rattle.wit_data.specs.declared.world.WorldKey.{WorldKey}
 use Rattle.wit_json.specs.Details.{json_of_range, json_of_span}
 use Rattle.wit_json.specs.Functions.{json_of_function_kind}
 use Rattle.wit_json.specs.Gates.{json_of_stability}
-use Rattle.wit_json.specs.Graph.{json_of_package_name}
+use Rattle.wit_json.specs.Graph.{compact, json_of_package_name}
 use Rattle.wit_json.specs.Groups.{json_of_group}
 use Rattle.wit_json.specs.Types.{json_of_handle, json_of_owner, json_of_result, json_of_type}
 use Rattle.wit_json.specs.Unresolved.{json_of_ast_item, json_of_foreign_item, json_of_gate, json_of_include, json_of_include_name, json_of_unresolved, whole_case, whole_enum_case, whole_field, whole_flag, whole_function, whole_interface, whole_item, whole_kind, whole_param, whole_type, whole_world}
@@ -58,6 +58,8 @@ use Rattle.wit_json.specs.Values.{Member, json_of_number, json_of_text, json_of_
 use Rattle.wit_json_graphs.specs.Writable.{AreWritableEntries, AreWritableItems, IsWritableAstItem, IsWritableCase, IsWritableField, IsWritableFunction, IsWritableFunctionKind, IsWritableGroup, IsWritableHandle, IsWritableInclude, IsWritableInterface, IsWritableItem, IsWritableKind, IsWritableOwner, IsWritablePackage, IsWritableParam, IsWritableSpan, IsWritableType, IsWritableTypeDef, IsWritableWorld}
 use Rattle.wit_json.specs.Whole.{json_of_file, json_of_sources}
 use Rattle.wit_json_graphs.specs.laws.ReadBack.{GroupTextsReadBack, TextsReadBack}
+use Rattle.wit_json_reading.specs.Documents.{if_document}
+use Rattle.wit_json_reading.specs.Stops.{stop_in}
 use Rattle.wit_json_reading.specs.Groups.{read_group}
 use Rattle.wit_json_reading.specs.Packages.{read_package}
 use Rattle.wit_json_graphs.proofs.Packages.{packages_read_back}
@@ -464,7 +466,7 @@ plain_unresolved p fits =
 pub texts_read_back : TextsReadBack
 texts_read_back p fits =
     let plain = plain_unresolved p fits in
-    ap (λ it. option_map_or read_package it (instead_of expected.Document)) (document-print (json_of_unresolved p) plain.numbers (omega (arith, plain.shallow))) ∙ packages_read_back p fits
+    ap (if_document read_package (stop_in (compact (json_of_unresolved p)))) (document-print (json_of_unresolved p) plain.numbers (omega (arith, plain.shallow))) ∙ packages_read_back p fits
 
 -- ---- groups
 
@@ -487,4 +489,4 @@ plain_group g fits =
 pub group_texts_read_back : GroupTextsReadBack
 group_texts_read_back g fits =
     let plain = plain_group g fits in
-    ap (λ it. option_map_or read_group it (instead_of expected.Document)) (document-print (json_of_group g) plain.numbers (omega (arith, plain.shallow))) ∙ groups_read_back g fits
+    ap (if_document read_group (stop_in (compact (json_of_group g)))) (document-print (json_of_group g) plain.numbers (omega (arith, plain.shallow))) ∙ groups_read_back g fits

@@ -1,4 +1,6 @@
 pub mod Reading
+pub mod Stops
+pub mod Syntax
 pub mod Values
 pub mod Objects
 pub mod Tables
@@ -7,6 +9,7 @@ pub mod Types
 pub mod Functions
 pub mod Worlds
 pub mod Packages
+pub mod Places
 pub mod Features
 pub mod Graphs
 pub mod Groups

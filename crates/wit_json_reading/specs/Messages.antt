@@ -3,11 +3,38 @@ use Rattle.std.specs.Prelude.{ℕ, List, ◌++◌, codes, decimal}
 use Rattle.wit_json_reading.specs.declared.fault.Expected.{Expected}
 use Rattle.wit_json_reading.specs.declared.fault.Expected.TheVariants as expected
 use Rattle.wit_json_reading.specs.declared.fault.Step.{Step}
+use Rattle.wit_json_reading.specs.declared.syntax.JsonPart.{JsonPart}
+use Rattle.wit_json_reading.specs.declared.syntax.JsonPart.TheVariants as part
 use Rattle.wit_json_reading.specs.declared.fault.Step.TheVariants as step
+
+-- a part of a JSON text
+abbrev pub json_part_text : JsonPart → List ℕ
+json_part_text part.Value = codes "a value"
+json_part_text part.ValueOrListEnd = codes "a value or `]`"
+json_part_text part.NameOrObjectEnd = codes "a name in quotes or `}`"
+json_part_text part.Name = codes "a name in quotes"
+json_part_text part.Colon = codes "`:`"
+json_part_text part.CommaOrListEnd = codes "`,` or `]`"
+json_part_text part.CommaOrObjectEnd = codes "`,` or `}`"
+json_part_text part.TextEnd = codes "the end of the text"
+json_part_text part.Character =
+    codes "a closing quote, or a character that isn't a control character"
+json_part_text part.Escape = codes "an escape"
+json_part_text part.HexDigit = codes "a hexadecimal digit"
+json_part_text part.HexDigitBelowC = codes "a hexadecimal digit below `c`"
+json_part_text part.SecondHalf = codes "the second half of a surrogate pair"
+json_part_text part.Digit = codes "a digit"
+json_part_text part.DigitOrSign = codes "a digit or a sign"
+json_part_text part.True = codes "`true`"
+json_part_text part.False = codes "`false`"
+json_part_text part.Null = codes "`null`"
 
 -- what was to stand there
 abbrev pub expected_text : Expected → List ℕ
 expected_text expected.Document = codes "a JSON value and nothing else"
+expected_text (expected.Json p) = json_part_text p
+expected_text (expected.UnfinishedJson p) = json_part_text p ++ codes " before the text ends"
+expected_text expected.Nesting = codes "at most 128 lists and objects in one another"
 expected_text expected.Object = codes "an object"
 expected_text expected.List = codes "a list"
 expected_text expected.Text = codes "a text"

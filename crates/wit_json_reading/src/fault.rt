@@ -3,6 +3,7 @@ ghost use Rattle.std.specs.Prelude.{◌≡◌, ◌++◌, ◌∷◌, [], IfOk};
 ghost use Rattle.wit_json_reading.specs.Reading.{Reading, Reads, instead_of, under};
 ghost use Rattle.wit_json_reading.specs.declared.fault.Step.TheVariants.{Item, Member};
 
+use crate::syntax::JsonPart;
 use std::alloc::{AllocError, Global};
 use wit_values::{Items, Text};
 
@@ -20,6 +21,12 @@ pub enum Step {
 pub enum Expected {
     /// A JSON value, and nothing else.
     Document,
+    /// This part of a JSON text.
+    Json(JsonPart),
+    /// This part of a JSON text, which ends before it.
+    UnfinishedJson(JsonPart),
+    /// No list or object, since as many hold this place as may.
+    Nesting,
     /// An object.
     Object,
     /// A list.

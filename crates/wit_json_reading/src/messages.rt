@@ -1,8 +1,9 @@
 //! Faults as texts.
 ghost use Rattle.std.specs.Prelude.{None, Some};
-ghost use Rattle.wit_json_reading.specs.Messages.{expected_text, path_step_text};
+ghost use Rattle.wit_json_reading.specs.Messages.{expected_text, json_part_text, path_step_text};
 
 use crate::fault::{Expected, Fault, ReadError, Step};
+use crate::syntax::JsonPart;
 use std::error::Error;
 use std::fmt;
 
@@ -12,6 +13,9 @@ impl fmt::Display for Expected {
     fn fmt<W: fmt::Write>(&self, f: &mut fmt::Formatter<W>) -> fmt::Result {
         let text = match self {
             Expected::Document => "a JSON value and nothing else",
+            Expected::Json(part) => return part.fmt(f),
+            Expected::UnfinishedJson(part) => return write!(f, "{part} before the text ends"),
+            Expected::Nesting => "at most 128 lists and objects in one another",
             Expected::Object => "an object",
             Expected::List => "a list",
             Expected::Text => "a text",
@@ -41,6 +45,34 @@ impl fmt::Display for Expected {
             Expected::NewName => "a name that no package before it has",
             Expected::Details => "details of the same things in the same order",
             Expected::ValidGraph => "a valid graph",
+        };
+        f.write_str(text)
+    }
+}
+
+impl fmt::Display for JsonPart {
+    ghost output = { λ part. Some (json_part_text part) };
+
+    fn fmt<W: fmt::Write>(&self, f: &mut fmt::Formatter<W>) -> fmt::Result {
+        let text = match self {
+            JsonPart::Value => "a value",
+            JsonPart::ValueOrListEnd => "a value or `]`",
+            JsonPart::NameOrObjectEnd => "a name in quotes or `}`",
+            JsonPart::Name => "a name in quotes",
+            JsonPart::Colon => "`:`",
+            JsonPart::CommaOrListEnd => "`,` or `]`",
+            JsonPart::CommaOrObjectEnd => "`,` or `}`",
+            JsonPart::TextEnd => "the end of the text",
+            JsonPart::Character => "a closing quote, or a character that isn't a control character",
+            JsonPart::Escape => "an escape",
+            JsonPart::HexDigit => "a hexadecimal digit",
+            JsonPart::HexDigitBelowC => "a hexadecimal digit below `c`",
+            JsonPart::SecondHalf => "the second half of a surrogate pair",
+            JsonPart::Digit => "a digit",
+            JsonPart::DigitOrSign => "a digit or a sign",
+            JsonPart::True => "`true`",
+            JsonPart::False => "`false`",
+            JsonPart::Null => "`null`",
         };
         f.write_str(text)
     }

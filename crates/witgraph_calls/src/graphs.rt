@@ -2,8 +2,7 @@
 ghost use Rattle.std.specs.Prelude.{◌≡◌, ◌⊎◌, ◌≤◌, [], ℕ, Err, IfErr, IfOk, IfSome, MatchOption, OnErr, OnOk, Some, string_bytes};
 ghost use Rattle.std.specs.Str.{IsUtf8};
 ghost use Rattle.wit_json.specs.Graph.{compact};
-ghost use Rattle.wit_json_commands.specs.Documents.{BeginsValid, TellsFault};
-ghost use Rattle.wit_json_commands.specs.Output.{json_of_fault};
+ghost use Rattle.wit_json_commands.specs.Documents.{BeginsValid, TellsFault, TellsPlace};
 ghost use Rattle.wit_json_commands.specs.steps.Outcomes.{Begins, TellsFaultOf};
 ghost use Rattle.witgraph_calls.specs.Graphs.{Applies, Replies, start_for, json_of_replies, text_of_state};
 ghost use Rattle.witgraph_calls.specs.News.{LeavesTold, told_nothing};
@@ -148,8 +147,8 @@ fn replies_to_json(alloc: Global, replies: &Items<Response>) -> Result<String, A
 /// The status and the text of a fault.
 fn tell(alloc: Global, text: &str, fault: &Fault) -> (u32, String)
     ensures status { (result.0 ≡ NOT_UNDERSTOOD) ⊎ (result.0 ≡ NO_MEMORY) }
-    ensures told { result.0 ≡ NOT_UNDERSTOOD → (offset : ℕ)
-        × (string_bytes result.1 ≡ compact (json_of_fault fault.now offset)) }
+    ensures told { result.0 ≡ NOT_UNDERSTOOD
+        → TellsPlace text.now fault.now (string_bytes result.1) }
     ensures none { result.0 ≡ NO_MEMORY → string_bytes result.1 ≡ [] }
 {
     match fault_text(alloc, text, fault) {

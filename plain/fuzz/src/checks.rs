@@ -127,8 +127,15 @@ fn check_document(input: &[u8]) {
 /// A fault has its place in the text.
 fn check_fault(text: &str, answer: &str) {
     let told: serde_json::Value = serde_json::from_str(answer).expect("one JSON document");
-    let offset = told["fault"]["offset"].as_u64().expect("an offset");
-    assert!(text.is_char_boundary(offset as usize), "byte {offset} of the text");
+    let number = |name: &str| told["fault"][name].as_u64().expect("a number") as usize;
+    let offset = number("offset");
+    assert!(text.is_char_boundary(offset), "byte {offset} of the text");
+    let before = &text[..offset];
+    let line = before.rsplit('\n').next().expect("a line");
+    let place = (before.matches('\n').count() + 1, line.chars().count() + 1);
+    assert_eq!((number("line"), number("column")), place, "line and column");
+    // it says what was expected where a text isn't JSON
+    assert_ne!(told["fault"]["expected"], "a JSON value and nothing else");
     let by_library = Document::from_json(text).map(|document| document.carry_out().is_some());
     assert_ne!(by_library, Ok(true), "a document with a fault");
 }

@@ -13,7 +13,7 @@ use crate::made::wit_graph_data::Graph;
 use crate::made::wit_json::{graph_to_json, group_to_json, text_of, whole_to_json};
 use crate::made::wit_json_commands::responses_to;
 use crate::made::wit_json_reading::{
-    Expected, Fault, ReadError, ReadJson, in_member, instead_of, offset_of, read_text,
+    Expected, Fault, FaultPlace, ReadError, ReadJson, in_member, instead_of, place_of, read_text,
 };
 use std::error::Error;
 use std::fmt;
@@ -27,20 +27,36 @@ pub use crate::made::wit_json_graphs::ResolveParts;
 #[derive(Clone, Debug, PartialEq, Eq)]
 pub struct JsonFault {
     text: String,
-    offset: usize,
+    expected: String,
+    place: FaultPlace,
 }
 
 impl JsonFault {
-    /// Where the value begins in the text, in bytes from 0.
+    /// How many bytes stand before the value, or before the place where the text stops being JSON.
     pub fn offset(&self) -> usize {
-        self.offset
+        self.place.offset
+    }
+
+    /// The line of that place, from 1.
+    pub fn line(&self) -> usize {
+        self.place.line
+    }
+
+    /// Its column in characters, from 1.
+    pub fn column(&self) -> usize {
+        self.place.column
+    }
+
+    /// What was to stand there.
+    pub fn expected(&self) -> &str {
+        &self.expected
     }
 }
 
-/// As `$.commands[0]: a command`, with the place.
+/// As `$.commands[0]: expected a command (line 1, column 14)`.
 impl fmt::Display for JsonFault {
     fn fmt(&self, f: &mut fmt::Formatter<'_>) -> fmt::Result {
-        write!(f, "{} (at byte {})", self.text, self.offset)
+        write!(f, "{} (line {}, column {})", self.text, self.line(), self.column())
     }
 }
 
@@ -61,10 +77,10 @@ fn told<T>(text: &str, read: Result<T, ReadError>) -> Result<T, JsonFault> {
 }
 
 fn fault_of(text: &str, fault: &Fault) -> JsonFault {
-    let offset = answered(offset_of(text, fault));
     JsonFault {
         text: fault.to_string(),
-        offset,
+        expected: fault.expected.to_string(),
+        place: answered(place_of(text, fault)),
     }
 }
 

@@ -15,6 +15,7 @@ use Rattle.wit_sources.specs.SourceMap.{Sources}
 use Rattle.wit_json.specs.Graph.{compact}
 use Rattle.wit_json_reading.specs.declared.fault.Expected.TheVariants as expected
 use Rattle.wit_json_reading.specs.declared.fault.Fault.{Fault}
+use Rattle.wit_json_reading.specs.declared.places.FaultPlace.{FaultPlace}
 use Rattle.wit_json_reading.specs.declared.fault.Step.TheVariants as step
 use Rattle.wit_json_commands.specs.Answers.{json_of_answer, json_of_response}
 use Rattle.wit_json_commands.specs.Output.{json_of_fault, json_of_output}
@@ -202,6 +203,10 @@ a_fault =
       expected = expected.Text;
     }
 
+-- in the first line
+abbrev pub a_place : FaultPlace
+a_place = record { offset = 29; line = 1; column = 30 }
+
 pub record ExamplesOfDocuments : Type 0 where
   -- the replies to what made another graph stand within that to its merge
   pub «merge» : response_text (response.Merge (answer.Done ∷ answer.NoWorld ∷ []) answer.Done)
@@ -210,15 +215,15 @@ pub record ExamplesOfDocuments : Type 0 where
       ≢ codes "[\"done\",\"no-world\",\"done\"]"
   pub plain : response_text (response.Answer answer.Done) ≡ codes "\"done\""
   -- the path of a fault from the whole down
-  pub fault : compact (json_of_fault a_fault 29)
+  pub fault : compact (json_of_fault a_fault a_place)
       ≡ codes "{\"fault\":{\"path\":[\"commands\",0,\"add-feature\"],"
-      ++ codes "\"offset\":29,\"expected\":\"a text\"}}"
-  pub not_upwards : compact (json_of_fault a_fault 29)
-      ≢ codes "{\"fault\":{\"path\":[\"add-feature\",0,"
-      ++ codes "\"commands\"],\"offset\":29,\"expected\":\"a text\"}}"
-  pub not_next : compact (json_of_fault a_fault 29)
+      ++ codes "\"offset\":29,\"line\":1,\"column\":30,\"expected\":\"a text\"}}"
+  pub not_upwards : compact (json_of_fault a_fault a_place)
+      ≢ codes "{\"fault\":{\"path\":[\"add-feature\",0,\"commands\"],"
+      ++ codes "\"offset\":29,\"line\":1,\"column\":30,\"expected\":\"a text\"}}"
+  pub not_turned : compact (json_of_fault a_fault a_place)
       ≢ codes "{\"fault\":{\"path\":[\"commands\",0,\"add-feature\"],"
-      ++ codes "\"offset\":30,\"expected\":\"a text\"}}"
+      ++ codes "\"offset\":29,\"line\":30,\"column\":1,\"expected\":\"a text\"}}"
   -- nothing was asked of an empty graph
   pub nothing : compact
       (json_of_output [] new_state.graph new_state.features Published new_state.source_map)

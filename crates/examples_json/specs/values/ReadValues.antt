@@ -13,6 +13,7 @@ use Rattle.wit_json_reading.specs.declared.fault.Expected.{Expected}
 use Rattle.wit_json_reading.specs.declared.fault.Expected.TheVariants as expected
 use Rattle.wit_json_reading.specs.declared.fault.Step.{Step}
 use Rattle.wit_json_reading.specs.declared.fault.Step.TheVariants as step
+use Rattle.wit_json_reading.specs.declared.syntax.JsonPart.TheVariants as part
 
 -- the fault at the end of a path, whose last step comes first
 abbrev pub fault_at : {A : Type 0} → List Step → Expected → Reading A
@@ -35,9 +36,10 @@ pub record ExamplesOfReadValues : Type 0 where
   -- a text is one value, with whatever white space
   pub alone : number (codes "12") ≡ Ok 12
   pub in_spaces : number (codes " 12\n") ≡ Ok 12
-  pub not_two : number (codes "12 3") ≡ instead_of expected.Document
-  pub not_empty : number (codes "") ≡ instead_of expected.Document
-  pub not_cut : read_from (read_list values.read_number) (codes "[1,2") ≡ instead_of expected.Document
+  pub not_two : number (codes "12 3") ≡ instead_of (expected.Json part.TextEnd)
+  pub not_empty : number (codes "") ≡ instead_of (expected.UnfinishedJson part.Value)
+  pub not_cut : read_from (read_list values.read_number) (codes "[1,2")
+      ≡ instead_of (expected.UnfinishedJson part.CommaOrListEnd)
   -- numbers: digits alone, below 2 ^ 64 or 2 ^ 32
   pub zero : number (codes "0") ≡ Ok 0
   pub largest : number (codes "18446744073709551615") ≡ Ok 18446744073709551615

@@ -13,7 +13,7 @@ use std::alloc::{AllocError, Global};
 use wit_data::{Items, SourceMap, TrackRule};
 use wit_graph_data::{Features, Graph};
 use wit_json::JsonText;
-use wit_json_reading::{Expected, Fault, Step};
+use wit_json_reading::{Expected, Fault, FaultPlace, Step};
 
 /// The answers to the commands of a document, and the graph with what stands beside it, without a space. The only error
 /// is want of memory.
@@ -78,24 +78,26 @@ fn write_expected(out: &mut JsonText, expected: Expected) -> Result<(), AllocErr
     out.string(text.as_str())
 }
 
-/// Writes the path to a fault, the byte at which its value begins, and what was expected there.
-fn write_place(out: &mut JsonText, fault: &Fault, offset: usize) -> Result<(), AllocError>
-    ensures { OnOk result (out.new ≡ out.old ++ json_tokens (json_of_place fault.now offset)) }
+/// Writes the path to a fault, where its value begins, and what was expected there.
+fn write_place(out: &mut JsonText, fault: &Fault, place: FaultPlace) -> Result<(), AllocError>
+    ensures { OnOk result (out.new ≡ out.old ++ json_tokens (json_of_place fault.now place)) }
 {
     out.begin_object()?;
     write_path_member(out, &fault.path)?;
-    write_number(out, "offset", offset)?;
+    write_number(out, "offset", place.offset)?;
+    write_number(out, "line", place.line)?;
+    write_number(out, "column", place.column)?;
     write_expected(out, fault.expected)?;
     out.end_object()
 }
 
 /// Why a document can't be read, without a space. The only error is want of memory.
-pub fn fault_to_json(alloc: Global, fault: &Fault, offset: usize) -> Result<String, AllocError>
-    ensures { IfOk result (λ text. string_bytes text ≡ compact (json_of_fault fault.now offset)) }
+pub fn fault_to_json(alloc: Global, fault: &Fault, place: FaultPlace) -> Result<String, AllocError>
+    ensures { IfOk result (λ text. string_bytes text ≡ compact (json_of_fault fault.now place)) }
 {
     let mut out = JsonText::new(alloc);
     out.begin_tagged("fault")?;
-    write_place(&mut out, fault, offset)?;
+    write_place(&mut out, fault, place)?;
     out.end_object()?;
     Ok(out.into_string())
 }

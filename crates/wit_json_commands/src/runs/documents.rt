@@ -4,9 +4,9 @@ ghost use Rattle.std.specs.Str.{IsUtf8};
 ghost use Rattle.std.specs.Io.KnownBytes.{Appends};
 ghost use Rattle.wit_streams.specs.Watched.{AppendsBeginning};
 ghost use Rattle.wit_json.specs.Graph.{compact};
-ghost use Rattle.wit_json_commands.specs.Output.{json_of_fault, json_of_output};
+ghost use Rattle.wit_json_commands.specs.Output.{json_of_output};
 ghost use Rattle.wit_json_reading.specs.Reading.{Reads};
-ghost use Rattle.wit_json_commands.specs.Documents.{ComesOut, ComesOutOfBytes, Understands, invalid_fault};
+ghost use Rattle.wit_json_commands.specs.Documents.{ComesOut, ComesOutOfBytes, TellsPlace, Understands, invalid_fault};
 ghost use Rattle.wit_json_commands.specs.steps.Outcomes.{Begins, TellsFaultOf, WritesOutput};
 
 use super::long_answers::without_long_answers;
@@ -16,7 +16,7 @@ use crate::replies::{Response, fault_to_json, output_to_json};
 use std::alloc::{AllocError, Global};
 use std::io::{Read, Write};
 use wit_json_graphs::ResolveParts;
-use wit_json_reading::{Expected, Fault, ReadError, in_member, instead_of, offset_of, read_text};
+use wit_json_reading::{Expected, Fault, ReadError, in_member, instead_of, place_of, read_text};
 use wit_resolve_graph::{Items, Resolve};
 use wit_streams::{StreamFault, Watched, read_all, write_all};
 
@@ -79,11 +79,10 @@ pub fn no_valid_graph(alloc: Global) -> Result<Resolve, ReadError>
 
 /// What comes out of a document that can't be read, or whose graph isn't valid.
 pub fn fault_text(alloc: Global, text: &str, fault: &Fault) -> Result<String, AllocError>
-    ensures { IfOk result
-        (λ out. (offset : ℕ) × (string_bytes out ≡ compact (json_of_fault fault.now offset))) }
+    ensures { IfOk result (λ out. TellsPlace text.now fault.now (string_bytes out)) }
 {
-    let offset = offset_of(alloc, text, fault)?;
-    fault_to_json(alloc, fault, offset)
+    let place = place_of(alloc, text, fault)?;
+    fault_to_json(alloc, fault, place)
 }
 
 /// What comes out of commands that begin with a graph. Where there is no memory to write it with its long answers, these are

@@ -12,7 +12,7 @@ returns c = record {
   plain = refl;
   fault = refl;
   not_upwards = differ _ _ refl;
-  not_next = differ _ _ refl;
+  not_turned = differ _ _ refl;
   nothing = refl;
   not_published = differ _ _ refl;
 }
