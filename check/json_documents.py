@@ -6,10 +6,10 @@
 PROGRAM reads a document from standard input and writes the one that comes out: the `witgraph_json` that `rt ci` leaves, where
 none is named. A case is a line `=== NAME`, a document, a line `---` and what is to come out.
 
-In `check/json_faults.txt` that is the path of a fault and what was expected there. The document has a mark `«` where the value
-begins at which the fault is, or where it stops being JSON: as many bytes stand before it as the offset tells, and the line and
-the column are those of the mark. Of a member that isn't there, docs/JSON.md tells no place: such a document has no mark, and the
-fault is at one of its characters or its end.
+In `check/json_faults.txt` that is the path of a fault and what was expected there; of a graph that isn't valid also the clause
+that it breaks and the message. The document has a mark `«` where the value begins at which the fault is, or where it stops being
+JSON: as many bytes stand before it as the offset tells, and the line and the column are those of the mark. Of a member that isn't
+there, docs/JSON.md tells no place: such a document has no mark, and the fault is at one of its characters or its end.
 
 In `check/json_answers.txt` it is a value. What comes out has its members, objects with more than it tells; entries of tables
 stand in its order; and where it has texts in place of one, that has each of them. With `"same"` the graph that the document
@@ -56,7 +56,8 @@ def faults_of(document, expected):
     before, mark, after = document.partition(MARK)
     path, at = json.JSONDecoder().raw_decode(expected)
     texts = [before] if mark else [document[:it] for it in range(len(document) + 1)]
-    faults = [{"path": path, **place_behind(it), "expected": expected[at + 1:]} for it in texts]
+    parts = dict(zip(("expected", "clause", "message"), expected[at + 1:].split("; ")))
+    faults = [{"path": path, **place_behind(it), **parts} for it in texts]
     return before + after, [compact({"fault": it}) for it in faults]
 
 

@@ -13,7 +13,7 @@ from model.scripts import Rules, Session, shown
 from model.walks import in_order
 
 CALLS = {
-    "is_valid", "assert_valid", "topological_packages", "id_of_name", "canonicalized_id_of_name", "select_world",
+    "is_valid", "find_graph_fault", "assert_valid", "topological_packages", "id_of_name", "canonicalized_id_of_name", "select_world",
     "select_world of a text", "id_of", "canonicalized_id_of", "version_suffix_of", "interface_direct_deps", "print_world",
     "name_world_key", "name_canonicalized_world_key", "implements_interface",
 }
@@ -67,6 +67,7 @@ class Answers:
 
     def whole(self):
         yield "is_valid", "true"
+        yield "find_graph_fault", "None"
         yield "assert_valid", "true"
         ordered = in_order(self.graph.packages, self.package_uses)
         places = [id_text(self.written.packages[it.name.key]) for it in ordered]

@@ -57,6 +57,7 @@ def one_of_each_error():
     """An error of each class, and its text."""
     return [
         (wg.Fault(["commands", 0], 14, 2, 3, "a command"), "expected a command at line 2, column 3, at commands[0]"),
+        (wg.Fault(["resolve"], 1, 1, 2, "it", "a.b", "it isn't"), "expected it at line 1, column 2, at resolve: it isn't"),
         (wg.NotUnderstood(2, "line 2: not understood"), "line 2: not understood"),
         (wg.ProgramFailed("./p", 1, "no memory\n"), "./p ended with status 1: no memory"),
         (wg.ProgramFailed("./p", -9, ""), "./p was ended by signal 9: nothing on standard error"),
@@ -454,7 +455,9 @@ class Calls(unittest.TestCase):
         for run in runners():
             with self.assertRaises(wg.Fault) as raised:
                 run([], graph)
-            self.assertEqual(raised.exception.path, ["resolve", "graph"])
+            fault = raised.exception
+            self.assertEqual((fault.path, fault.clause), (["resolve", "graph", "packages", 0, "interfaces"], "tables.interface_tables"))
+            self.assertEqual(fault.message, "entry 0 among the interfaces of package 0 is no interface of that name in that package")
 
     def test_a_package_that_lacks_its_shape_is_told(self):
         functions = {"f": wg.Function("g", "freestanding", [])}
@@ -503,7 +506,8 @@ class Resolves(unittest.TestCase):
     def test_a_graph_that_is_not_valid_is_a_fault(self):
         with self.assertRaises(wg.Fault) as raised:
             wg.Resolve(wg.Graph(packages=[wg.Package("a:b", interfaces={"i": 0})]))
-        self.assertEqual(raised.exception.path, ["resolve", "graph"])
+        fault = raised.exception
+        self.assertEqual((fault.path, fault.clause), (["resolve", "graph", "packages", 0, "interfaces"], "tables.interface_tables"))
 
     def test_two_are_two(self):
         one, other = wg.Resolve(), wg.Resolve()

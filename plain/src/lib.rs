@@ -92,6 +92,7 @@ pub use crate::made::wit_data::{
     World, WorldId, WorldInclude, WorldItem, WorldKey,
 };
 pub use crate::made::wit_graph_data::{Cause, Features, Graph, Package, ResolveError, ResolveErrorKind, ResolveResult};
+pub use crate::made::wit_graph_faults::{GraphClause, GraphFault, GraphPlace};
 pub use crate::made::wit_items::{ShapeClause, ShapeFault, ShapePlace};
 pub use crate::made::wit_link::Remap;
 pub use crate::made::wit_resolve_graph::{ParseFault, SourceFault};

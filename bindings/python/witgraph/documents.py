@@ -280,7 +280,8 @@ def object_with_names(members: list[tuple[str, Any]]) -> dict[str, Any]:
 
 
 def fault_of(value: dict[str, Any]) -> Fault:
-    return Fault(*(value["fault"][it] for it in ("path", "offset", "line", "column", "expected")))
+    names = ("path", "offset", "line", "column", "expected", "clause", "message")
+    return Fault(*(value["fault"].get(it) for it in names))
 
 
 def run_of(output: Union[str, bytes]) -> Run:

@@ -28,16 +28,29 @@ class Fault(Error):
     """A document of commands that can't be read: the `path` to a value, its place, and what was `expected` there.
 
     The place is where the value begins, or where the document stops being JSON. `offset` counts the bytes before it. `line` and
-    `column` are from 1; the column counts characters.
+    `column` are from 1; the column counts characters. Of a graph that isn't valid, `clause` is the first that it breaks, and
+    `message` says what is wrong with the thing there.
     """
 
-    def __init__(self, path: Path, offset: int, line: int, column: int, expected: str):
-        super().__init__(path, offset, line, column, expected)
+    def __init__(
+        self,
+        path: Path,
+        offset: int,
+        line: int,
+        column: int,
+        expected: str,
+        clause: Optional[str] = None,
+        message: Optional[str] = None,
+    ):
+        super().__init__(path, offset, line, column, expected, clause, message)
         self.path, self.offset, self.line, self.column, self.expected = path, offset, line, column, expected
+        self.clause, self.message = clause, message
 
     def __str__(self) -> str:
         told = f"expected {self.expected} at line {self.line}, column {self.column}"
-        return f"{told}, at {path_text(self.path)}" if self.path else told
+        if self.path:
+            told += f", at {path_text(self.path)}"
+        return f"{told}: {self.message}" if self.message else told
 
 
 class NotUnderstood(Error):

@@ -10,7 +10,8 @@ use wit_graph::queries::package_deps::package_uses;
 use wit_graph::queries::valid_bits::is_valid_by;
 use wit_graph::{
     Graph, GraphQueries, ResolveError, are_uses_acyclic, elaborate, external_id_value,
-    implements_interface, is_elaborable, is_valid, select_world, version_suffix_of,
+    find_graph_fault, implements_interface, is_elaborable, is_valid, select_world,
+    version_suffix_of,
 };
 use wit_items::{
     Docs, InterfaceId, Items, PackageId, Span, Stability, Text, Type_, TypeDefKind, TypeId,
@@ -35,6 +36,11 @@ const SCRIPT: &str = "package foo:dep@0.2.1\n\
 fn dependencies(rt: &impl Abort, alloc: Global) -> String {
     let graph = graph(rt, alloc, SCRIPT);
     assert!(rt; is_valid(alloc, &graph).expect(rt, "memory"));
+    assert!(rt;
+        find_graph_fault(alloc, &graph)
+            .expect(rt, "memory")
+            .is_none()
+    );
     assert!(rt; graph.interfaces.len() == 2 && graph.packages.len() == 2);
     let mut out = String::new(alloc);
     for index in 0..graph.types.len() {

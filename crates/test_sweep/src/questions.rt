@@ -6,7 +6,7 @@ use std::alloc::Global;
 use wit_resolve_graph::{
     Docs, Function, InterfaceId, LiftLowerAbi, ManglingAndAbi, PackageId, Resolve,
     ResourceIntrinsic, Span, Stability, StreamIntrinsic, Text, TypeId, WasmExport, WasmExportKind,
-    WasmImport, WorldId, WorldItem, WorldKey, is_valid,
+    WasmImport, WorldId, WorldItem, WorldKey, find_graph_fault, is_valid,
 };
 use wit_script::print_world;
 
@@ -17,6 +17,8 @@ pub fn ask_whole(rt: &impl Print, alloc: Global, resolve: &Resolve) -> Option<()
     copied(rt, "try_clone of NameSet", &resolve.features().names)?;
     call(rt, "is_valid");
     tell(rt, is_valid(alloc, resolve.graph()))?;
+    call(rt, "find_graph_fault");
+    tell(rt, find_graph_fault(alloc, resolve.graph()))?;
     call(rt, "assert_valid");
     tell(rt, resolve.assert_valid(alloc))?;
     call(rt, "topological_packages");

@@ -5,8 +5,8 @@
 //! `world_in` find what a package has under a name, [`queries`] has the other questions as functions, and
 //! [`GraphQueries`] has them as methods. [`elaborate`] makes a world canonical, where [`is_elaborable`] is true, [`rows`]
 //! has what interfaces reach and makes all worlds canonical, where [`are_uses_acyclic`] is. [`is_valid`] tells whether a
-//! graph is valid, as the graph of each `Resolve` is; [`laws`] has laws of worlds and graphs. A [`ResolveError`] has a
-//! number and fields of its kind, and renders itself with its line of the sources.
+//! graph is valid, as the graph of each `Resolve` is, and [`find_graph_fault`] why it isn't; [`laws`] has laws of worlds and
+//! graphs. A [`ResolveError`] has a number and fields of its kind, and renders itself with its line of the sources.
 //!
 //! ```text
 //! use wit_graph::{Graph, GraphQueries, ResolveResult};
@@ -30,6 +30,7 @@ pub use wit_elaboration::{elaborate, is_elaborable, rows};
 pub use wit_graph_data::{
     Cause, Features, Graph, Package, ResolveError, ResolveErrorKind, ResolveResult,
 };
+pub use wit_graph_faults::{GraphClause, GraphFault, GraphPlace, find_graph_fault};
 pub use wit_queries as queries;
 pub use wit_queries::canonical::version_suffix_of;
 pub use wit_queries::entries::{external_id_value, implements_interface};

@@ -33,5 +33,5 @@ read_faults input error.OutOfMemory reads = tt
 
 -- it begins with a graph that isn't valid
 pub begin_faults : (input : List ℕ) (document : Document) (e : ReadError) → read_from read_document input ≡ Ok document → Begins document.resolve (Err e) → TellsFaultOf input e
-begin_faults input document (error.Fault fault) reads begins = inr (record { document = document; reads = reads; invalid = begins.0; fault_is = begins.1 })
+begin_faults input document (error.Fault fault) reads begins = inr (record { document = document; reads = reads; tells = begins })
 begin_faults input document error.OutOfMemory reads begins = tt

@@ -1,15 +1,16 @@
 -- What comes out of a document.
-use Rattle.std.specs.Prelude.{◌≡◌, ◌⊎◌, ℕ, Bool, true, false, List, [], ◌∷◌, Option, Some, None, Ok, Err, IsUtf8, codes}
+use Rattle.std.specs.Prelude.{◌≡◌, ◌⊎◌, ℕ, Bool, true, false, List, Option, Some, None, Ok, Err, IsUtf8}
 use Rattle.wit_elaboration.specs.Valid.{IsValid}
+use Rattle.wit_graph_faults.specs.Faults.{IsGraphFault}
+use Rattle.wit_graph_faults.specs.declared.fault.GraphFault.{GraphFault}
 use Rattle.wit_resolve_graph.specs.State.{State, new_state}
 use Rattle.wit_json.specs.Graph.{compact}
 use Rattle.wit_json_graphs.specs.declared.resolves.ResolveParts.{ResolveParts}
 use Rattle.wit_json_reading.specs.Documents.{read_from}
 use Rattle.wit_json_reading.specs.Places.{IsPlaceOf}
-use Rattle.wit_json_reading.specs.declared.fault.Expected.TheVariants as expected
 use Rattle.wit_json_reading.specs.declared.fault.Fault.{Fault}
-use Rattle.wit_json_reading.specs.declared.fault.Step.TheVariants as step
 use Rattle.wit_json_reading.specs.declared.places.FaultPlace.{FaultPlace}
+use Rattle.wit_json_commands.specs.GraphFaults.{invalid_fault}
 use Rattle.wit_json_commands.specs.Orders.{read_document}
 use Rattle.wit_json_commands.specs.declared.commands.orders.Document.{Document}
 use Rattle.wit_json_commands.specs.Output.{json_of_fault, json_of_output}
@@ -52,20 +53,17 @@ pub record Understands (input text : List ℕ) : Type 0 where
   pub valid : BeginsValid document.resolve
   pub outputs : Outputs document text
 
--- that of the graph which a document begins with: the path to it, the last step first
-abbrev pub invalid_fault : Fault
-invalid_fault =
-    record {
-      path = step.Member (codes "graph") ∷ step.Member (codes "resolve") ∷ [];
-      expected = expected.ValidGraph;
-    }
+-- why it isn't, of one that isn't
+abbrev pub TellsInvalid : Option ResolveParts → Fault → Type 0
+TellsInvalid None fault = ⊥
+TellsInvalid (Some parts) fault =
+    (why : GraphFault) × (IsGraphFault parts.graph why × (fault ≡ invalid_fault why))
 
 -- a document begins with a graph that isn't valid
 pub record BeginsInvalid (input : List ℕ) (fault : Fault) : Type 0 where
   pub document : Document
   pub reads : read_from read_document input ≡ Ok document
-  pub invalid : BeginsValid document.resolve → ⊥
-  pub fault_is : fault ≡ invalid_fault
+  pub tells : TellsInvalid document.resolve fault
 
 -- the first fault of a document that can't be read, or that of one which begins with a graph that isn't valid
 abbrev pub IsFaultOf : List ℕ → Fault → Type 0

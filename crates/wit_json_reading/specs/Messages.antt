@@ -63,7 +63,7 @@ expected_text expected.Mangling = codes "a mangling"
 expected_text expected.FunctionPlace = codes "where a function stands"
 expected_text expected.NewName = codes "a name that no package before it has"
 expected_text expected.Details = codes "details of the same things in the same order"
-expected_text expected.ValidGraph = codes "a valid graph"
+expected_text (expected.ValidGraph why) = codes "a valid graph"
 
 -- a step of a path
 abbrev pub path_step_text : Step → List ℕ

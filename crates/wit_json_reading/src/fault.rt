@@ -5,6 +5,7 @@ ghost use Rattle.wit_json_reading.specs.declared.fault.Step.TheVariants.{Item, M
 
 use crate::syntax::JsonPart;
 use std::alloc::{AllocError, Global};
+use wit_graph_faults::GraphFault;
 use wit_values::{Items, Text};
 
 /// A step from a value to one in it.
@@ -83,8 +84,8 @@ pub enum Expected {
     NewName,
     /// As many details as there are things, under the same names and in the same order.
     Details,
-    /// A valid graph.
-    ValidGraph,
+    /// A valid graph; this is why it isn't one.
+    ValidGraph(GraphFault),
 }
 
 /// Where a JSON value isn't as it is read, and what was to stand there.

@@ -44,7 +44,7 @@ impl fmt::Display for Expected {
             Expected::FunctionPlace => "where a function stands",
             Expected::NewName => "a name that no package before it has",
             Expected::Details => "details of the same things in the same order",
-            Expected::ValidGraph => "a valid graph",
+            Expected::ValidGraph(_) => "a valid graph",
         };
         f.write_str(text)
     }
@@ -99,7 +99,11 @@ impl fmt::Display for Fault {
             write!(f, "{step}")?;
         }
         let expected = self.expected;
-        write!(f, ": expected {expected}")
+        write!(f, ": expected {expected}")?;
+        match expected {
+            Expected::ValidGraph(reason) => write!(f, ", but {reason}"),
+            _ => Ok(()),
+        }
     }
 }
 

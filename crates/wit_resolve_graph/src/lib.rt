@@ -39,9 +39,10 @@ pub use crate::resolve::Resolve;
 pub use crate::sources::{ParseFault, SourceFault};
 pub use wit_commands::Change;
 pub use wit_graph::{
-    Cause, Features, FutureIntrinsic, Graph, GraphQueries, InterfaceDirectDeps, NameSet, Package,
-    PackageDirectDeps, ResolveError, ResolveErrorKind, ResolveResult, ResourceIntrinsic,
-    StreamIntrinsic, WasmExport, WasmExportKind, WasmImport, is_valid,
+    Cause, Features, FutureIntrinsic, Graph, GraphClause, GraphFault, GraphPlace, GraphQueries,
+    InterfaceDirectDeps, NameSet, Package, PackageDirectDeps, ResolveError, ResolveErrorKind,
+    ResolveResult, ResourceIntrinsic, StreamIntrinsic, WasmExport, WasmExportKind, WasmImport,
+    find_graph_fault, is_valid,
 };
 pub use wit_items::{
     AccessorKind, AstItem, Case, Docs, EnumCase, Field, Flag, Function, FunctionKind, Handle,

@@ -4,6 +4,7 @@ ghost use Rattle.std.specs.List.{AllByRecursion};
 ghost use Rattle.std.specs.Option.{option_copied, option_map};
 ghost use Rattle.wit_graph_data.specs.IdText.{id_text, interface_id_at, key_text};
 ghost use Rattle.wit_elaboration.specs.Valid.{IsValid};
+ghost use Rattle.wit_graph_faults.specs.Faults.{IsGraphFault};
 ghost use Rattle.wit_graph_data.specs.declared.error_kind.ResolveErrorKind.{ResolveErrorKind};
 ghost use Rattle.wit_graph_data.specs.declared.error_kind.ResolveErrorKind.TheVariants.{OffsetOverflow, OutOfMemory};
 ghost use Rattle.wit_data.specs.Shape.{IsGroupShaped, IsShaped};
@@ -31,6 +32,7 @@ use wit_data::{
     TypeDef, UnresolvedPackage, UnresolvedPackageGroup, World, WorldId, WorldItem, WorldKey,
 };
 use wit_graph_data::{Features, Graph, Package, ResolveErrorKind, ResolveResult};
+use wit_graph_faults::{GraphFault, find_graph_fault};
 use wit_link::Remap;
 use wit_queries::selection::select_world;
 use wit_transform::{exportize_answered_with, exportize_with, importize_with};
@@ -108,6 +110,41 @@ impl Resolve {
         }
         let kept = Kept::of(alloc, &graph)?;
         Ok(Some(Resolve {
+            graph,
+            kept,
+            features,
+            source_map,
+            track_rule,
+        }))
+    }
+
+    /// Makes a `Resolve` as `of_graph` does, or tells why the graph isn't valid (`find_graph_fault`). The only refusal is
+    /// want of memory (28).
+    pub fn of_graph_or_fault(
+        alloc: Global,
+        graph: Graph,
+        features: Features,
+        source_map: SourceMap,
+        track_rule: TrackRule,
+    ) -> ResolveResult<Result<Resolve, GraphFault>>
+        ensures value { IfOk result (λ made.
+            IfOk made (λ it.
+            it
+            ≡ record {
+              graph = graph;
+              features = features;
+              source_map = source_map;
+              track_rule = track_rule;
+            })) }
+        ensures valid { IfOk result (λ made. OnOk made (IsValid graph)) }
+        ensures fault { IfOk result (λ made. IfErr made (IsGraphFault graph)) }
+        ensures memory { IfErr result (λ kind. kind ≡ OutOfMemory) }
+    {
+        if let Some(fault) = find_graph_fault(alloc, &graph)? {
+            return Ok(Err(fault));
+        }
+        let kept = Kept::of(alloc, &graph)?;
+        Ok(Ok(Resolve {
             graph,
             kept,
             features,

@@ -12,7 +12,7 @@ use Rattle.wit_shape.proofs.Clauses.{before_or_same, keeps}
 use Rattle.wit_shape.specs.facts.IdFacts.{are_new, none_again}
 use Rattle.wit_shape.specs.facts.FirstFacts.{first_fails, first_same, id_fails, id_same, within_fails, within_same}
 use Rattle.wit_shape.proofs.NameLists.{interfaces_differ, worlds_differ}
-use Rattle.wit_shape.proofs.Prefixes.{on_cycle_fails, on_cycle_same}
+use Rattle.wit_shape.specs.facts.Prefixes.{on_cycle_fails, on_cycle_same}
 use Rattle.wit_shape.specs.Faults.{BreaksAt, Holds, IsBefore, IsFirstFault, foreign_interface_count, foreign_world_count, unnamed_in_worlds}
 use Rattle.wit_shape.specs.declared.clause.ShapeClause.{ShapeClause}
 use Rattle.wit_shape.specs.declared.fault.ShapeFault.{ShapeFault}

@@ -20,7 +20,7 @@ pub mod references;
 mod search;
 pub mod unknown;
 mod unplaced;
-mod uses;
+pub mod uses;
 pub mod worlds;
 
 pub use crate::clause::ShapeClause;

@@ -48,7 +48,7 @@ pub fn are_interfaces_kebab(interfaces: &[Interface]) -> bool
 }
 
 /// The first interface with a name that is no kebab name.
-pub(crate) fn interfaces(interfaces: &[Interface]) -> Option<ShapePlace>
+pub fn interfaces(interfaces: &[Interface]) -> Option<ShapePlace>
     ensures { FindsFirst place.Interface
         (λ _ (interface : Interface). IfSome interface.name IsKebabName) interfaces.now result }
 {

@@ -36,7 +36,7 @@ pub fn all_refer_to_own(
 }
 
 /// The first named type but an alias that refers to types of others.
-pub(crate) fn types(
+pub fn types(
     alloc: Global,
     types: &[TypeDef],
     shown: &Items<NamedOwners>,
@@ -102,7 +102,7 @@ pub fn all_functions_use_own(
 }
 
 /// The first function of an interface that refers to types of others.
-pub(crate) fn functions(
+pub fn functions(
     alloc: Global,
     types: &[TypeDef],
     shown: &Items<NamedOwners>,
@@ -179,7 +179,7 @@ pub fn all_imports_use_own(
 }
 
 /// The first function that a world imports and that refers to types of others.
-pub(crate) fn imports(
+pub fn imports(
     alloc: Global,
     types: &[TypeDef],
     shown: &Items<NamedOwners>,
@@ -217,7 +217,7 @@ pub fn all_exports_use_own(
 }
 
 /// The first function that a world exports and that refers to types of others.
-pub(crate) fn exports(
+pub fn exports(
     alloc: Global,
     types: &[TypeDef],
     shown: &Items<NamedOwners>,

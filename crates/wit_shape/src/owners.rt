@@ -36,7 +36,7 @@ pub fn are_listed(
 }
 
 /// The first type that its owner doesn't list, or that has a name without an owner.
-pub(crate) fn listed(
+pub fn listed(
     interfaces: &[Interface],
     worlds: &[World],
     types: &[TypeDef],
@@ -146,7 +146,7 @@ pub fn all_list_own(types: &[TypeDef], interfaces: &[Interface]) -> bool
 }
 
 /// The first type that an interface lists and that isn't its own of that name.
-pub(crate) fn own_types(types: &[TypeDef], interfaces: &[Interface]) -> Option<ShapePlace>
+pub fn own_types(types: &[TypeDef], interfaces: &[Interface]) -> Option<ShapePlace>
     ensures { FindsWithin place.InterfaceType (λ f (interface : Interface) (e : List ℕ × ℕ).
         IsTypeOf types.now (owners.Interface f) e.0 e.1)
         (λ (interface : Interface). interface.types) interfaces.now result }
@@ -192,7 +192,7 @@ pub fn all_name_functions(interfaces: &[Interface]) -> bool
 }
 
 /// The first function that stands under another name.
-pub(crate) fn functions(interfaces: &[Interface]) -> Option<ShapePlace>
+pub fn functions(interfaces: &[Interface]) -> Option<ShapePlace>
     ensures { FindsWithin place.Function
         (λ _ (interface : Interface) (e : List ℕ × Function). e.1.name ≡ e.0)
         (λ (interface : Interface). interface.functions) interfaces.now result }

@@ -32,7 +32,7 @@ pub(crate) fn earlier(
     Ok(None)
 }
 
-fn refers_back(alloc: Global, index: usize, def: &TypeDef) -> Result<bool, AllocError>
+pub fn refers_back(alloc: Global, index: usize, def: &TypeDef) -> Result<bool, AllocError>
     ensures { IfOk result (λ back. IsTrue back ↔ Each (λ id. id < index) (referred def.now.kind)) }
 {
     let ids = referred(alloc, &def.kind)?;
@@ -53,7 +53,7 @@ pub fn all_alias_named(types: &[TypeDef], interfaces: &[Interface]) -> bool
 }
 
 /// The first alias of a type that names none that it may.
-pub(crate) fn aliases(types: &[TypeDef], interfaces: &[Interface]) -> Option<ShapePlace>
+pub fn aliases(types: &[TypeDef], interfaces: &[Interface]) -> Option<ShapePlace>
     ensures { FindsFirst place.Type_ (λ _. AliasesNamed types.now interfaces.now) types.now result }
 {
     for (index, def) in types.iter().enumerate() {
@@ -120,7 +120,7 @@ pub fn are_plain_if_unnamed(types: &[TypeDef]) -> bool
 }
 
 /// The first type without a name that is an alias or a resource.
-pub(crate) fn unnamed(types: &[TypeDef]) -> Option<ShapePlace>
+pub fn unnamed(types: &[TypeDef]) -> Option<ShapePlace>
     ensures { FindsFirst place.Type_ (λ _ (def : TypeDef). (def.name ≡ None) → IsPlain def.kind)
         types.now result }
 {

@@ -27,7 +27,7 @@ pub(crate) fn acyclic(
 }
 
 /// The first node with which those up to it lead from one of them back to it, found by halves.
-fn first_on_cycle(alloc: Global, uses: &[Items<usize>]) -> Result<Option<usize>, AllocError>
+pub fn first_on_cycle(alloc: Global, uses: &[Items<usize>]) -> Result<Option<usize>, AllocError>
     requires { IsInRange uses.now }
     ensures { IfOk result (λ found. Finds (IsAcyclic uses.now) (IsFirstOnCycle uses.now) found) }
 {

@@ -31,11 +31,7 @@ pub fn all_have_imports(interfaces: &[Interface], types: &[TypeDef], worlds: &[W
 }
 
 /// The first import that may not stand under its key.
-pub(crate) fn imports(
-    interfaces: &[Interface],
-    types: &[TypeDef],
-    worlds: &[World],
-) -> Option<ShapePlace>
+pub fn imports(interfaces: &[Interface], types: &[TypeDef], worlds: &[World]) -> Option<ShapePlace>
     ensures { FindsWithin place.Import
         (λ w (world : World) (e : Entry). IsImport interfaces.now types.now w e.0 e.1)
         (λ (world : World). world.imports) worlds.now result }
@@ -115,7 +111,7 @@ pub fn all_have_exports(interfaces: &[Interface], worlds: &[World]) -> bool
 }
 
 /// The first export that may not stand under its key.
-pub(crate) fn exports(interfaces: &[Interface], worlds: &[World]) -> Option<ShapePlace>
+pub fn exports(interfaces: &[Interface], worlds: &[World]) -> Option<ShapePlace>
     ensures { FindsWithin place.Export
         (λ _ (world : World) (e : Entry). IsExport interfaces.now e.0 e.1)
         (λ (world : World). world.exports) worlds.now result }
@@ -185,7 +181,7 @@ pub fn stand_once(
 }
 
 /// The first interface without a name that stands in a second place.
-pub(crate) fn once(
+pub fn once(
     alloc: Global,
     interfaces: &[Interface],
     worlds: &[World],

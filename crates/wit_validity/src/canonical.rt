@@ -41,7 +41,7 @@ pub(crate) fn are_canonical(alloc: Global, graph: &Graph) -> ResolveResult<bool>
 }
 
 /// Whether a world is its own elaboration.
-fn is_canonical(
+pub fn is_canonical(
     alloc: Global,
     elaborator: &mut Elaborator,
     graph: &Graph,

@@ -1,14 +1,14 @@
 //! Whether a graph is valid, told of any graph whatever.
 #![tactic(auto)]
 
-mod canonical;
+pub mod canonical;
 mod cycles;
 mod named;
 mod own;
-mod package_names;
+pub mod package_names;
 mod same;
-mod tables;
+pub mod tables;
 mod valid;
-mod world_homes;
+pub mod world_homes;
 
 pub use crate::valid::is_valid;

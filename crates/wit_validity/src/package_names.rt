@@ -32,7 +32,7 @@ fn name_their_own(packages: &[Package], names: &Table<PackageName, PackageId>) -
 }
 
 /// Whether there is such a package, of this name.
-fn has_this_name(packages: &[Package], id: PackageId, name: &PackageName) -> bool
+pub fn has_this_name(packages: &[Package], id: PackageId, name: &PackageName) -> bool
     ensures { IsTrue result ↔ SomeAt packages.now id (λ (home : Package). home.name ≡ name.now) }
 {
     match packages.get(id.index()) {
@@ -59,7 +59,11 @@ fn are_named(packages: &[Package], names: &Table<PackageName, PackageId>) -> boo
 }
 
 /// Whether the names have a package under a name.
-fn names_package(names: &Table<PackageName, PackageId>, name: &PackageName, index: usize) -> bool
+pub fn names_package(
+    names: &Table<PackageName, PackageId>,
+    name: &PackageName,
+    index: usize,
+) -> bool
     ensures { IsTrue result ↔ Contains names.now (name.now, index) }
 {
     names.keys_differ();

@@ -39,7 +39,7 @@ fn are_in_tables(packages: &[Package], interfaces: &[Interface]) -> bool
     interfaces.iter().enumerate().all(|(index, interface)| is_in_table(packages, index, interface))
 }
 
-fn is_in_table(packages: &[Package], index: usize, interface: &Interface) -> bool
+pub fn is_in_table(packages: &[Package], index: usize, interface: &Interface) -> bool
     ensures { IsTrue result ↔ IsInTable packages.now index interface.now }
 {
     let Some(home) = interface.package else {
@@ -82,7 +82,7 @@ fn are_worlds_in_tables(packages: &[Package], worlds: &[World]) -> bool
         .all(|(index, world)| is_world_in_table(packages, index, world))
 }
 
-fn is_world_in_table(packages: &[Package], index: usize, world: &World) -> bool
+pub fn is_world_in_table(packages: &[Package], index: usize, world: &World) -> bool
     ensures { IsTrue result ↔ IsWorldInTable packages.now index world.now }
 {
     let Some(home) = world.package else {
@@ -132,7 +132,7 @@ fn has_interfaces(interfaces: &[Interface], home: usize, table: &Names<Interface
 }
 
 /// Whether there is such an interface, of this name and this package.
-fn is_interface_of(interfaces: &[Interface], home: usize, name: &str, id: InterfaceId) -> bool
+pub fn is_interface_of(interfaces: &[Interface], home: usize, name: &str, id: InterfaceId) -> bool
     ensures { IsTrue result ↔ IsInterfaceOf interfaces.now home name.now id }
 {
     match interfaces.get(id.index()) {
@@ -177,7 +177,7 @@ fn has_worlds(worlds: &[World], home: usize, table: &Names<WorldId>) -> bool
 }
 
 /// Whether there is such a world, of this name and this package.
-fn is_world_of(worlds: &[World], home: usize, name: &str, id: WorldId) -> bool
+pub fn is_world_of(worlds: &[World], home: usize, name: &str, id: WorldId) -> bool
     ensures { IsTrue result ↔ IsWorldOf worlds.now home name.now id }
 {
     match worlds.get(id.index()) {

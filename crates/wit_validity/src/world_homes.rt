@@ -45,7 +45,7 @@ fn are_of_package(
 }
 
 /// Whether an item is no interface without a name, or one of this package.
-fn is_of_package(interfaces: &[Interface], home: &Option<PackageId>, item: &WorldItem) -> bool
+pub fn is_of_package(interfaces: &[Interface], home: &Option<PackageId>, item: &WorldItem) -> bool
     ensures { IsTrue result ↔ IsOfPackage interfaces.now home.now item.now }
 {
     match item {

@@ -108,9 +108,9 @@ fn valid(alloc: Global, parts: ResolveParts) -> Result<Resolve, ReadError>
         source_map,
         track_rule,
     } = parts;
-    match Resolve::of_graph(alloc, graph, features, source_map, track_rule) {
-        Ok(Some(resolve)) => Ok(resolve),
-        Ok(None) => no_valid_graph(alloc),
+    match Resolve::of_graph_or_fault(alloc, graph, features, source_map, track_rule) {
+        Ok(Ok(resolve)) => Ok(resolve),
+        Ok(Err(fault)) => no_valid_graph(alloc, fault),
         Err(_) => Err(ReadError::OutOfMemory),
     }
 }

@@ -86,10 +86,10 @@ fn fault_of(text: &str, fault: &Fault) -> JsonFault {
 
 /// The graph of parts, which is to be valid.
 fn resolve_of(parts: ResolveParts) -> Result<Resolve, ReadError> {
-    let made = Resolve::of_graph(parts.graph, parts.features, parts.source_map, parts.track_rule);
+    let made = Resolve::of_graph_or_fault(parts.graph, parts.features, parts.source_map, parts.track_rule);
     match made {
-        Some(resolve) => Ok(resolve),
-        None => in_member(instead_of(Expected::ValidGraph), "graph"),
+        Ok(resolve) => Ok(resolve),
+        Err(fault) => in_member(instead_of(Expected::ValidGraph(fault)), "graph"),
     }
 }
 

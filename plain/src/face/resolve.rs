@@ -4,6 +4,7 @@ use crate::made::wit_data::{
     PackageId, SourceMap, TrackRule, UnresolvedPackage, UnresolvedPackageGroup, WorldId, WorldItem, WorldKey,
 };
 use crate::made::wit_graph_data::{Features, Graph, ResolveError, ResolveResult};
+use crate::made::wit_graph_faults::GraphFault;
 use crate::made::wit_items::{ShapeFault, find_shape_fault};
 use crate::made::wit_link::Remap;
 use crate::made::wit_resolve_graph as made;
@@ -46,6 +47,20 @@ impl Resolve {
     /// Clause: `of_graph` answers a graph exactly where `IsValid` holds of it.
     pub fn of_graph(graph: Graph, features: Features, source_map: SourceMap, track_rule: TrackRule) -> Option<Resolve> {
         let made = made::Resolve::of_graph(graph, features, source_map, track_rule);
+        answered(made).map(|inner| Resolve { inner })
+    }
+
+    /// The same, or why the graph isn't valid.
+    ///
+    /// Clauses of `of_graph_or_fault`: the fault is the first clause of `IsValid` that the graph breaks, and the first thing
+    /// that breaks it (`IsGraphFault`).
+    pub fn of_graph_or_fault(
+        graph: Graph,
+        features: Features,
+        source_map: SourceMap,
+        track_rule: TrackRule,
+    ) -> Result<Resolve, GraphFault> {
+        let made = made::Resolve::of_graph_or_fault(graph, features, source_map, track_rule);
         answered(made).map(|inner| Resolve { inner })
     }
 

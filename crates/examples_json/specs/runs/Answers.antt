@@ -18,6 +18,10 @@ use Rattle.wit_json_reading.specs.declared.fault.Fault.{Fault}
 use Rattle.wit_json_reading.specs.declared.places.FaultPlace.{FaultPlace}
 use Rattle.wit_json_reading.specs.declared.fault.Step.TheVariants as step
 use Rattle.wit_json_commands.specs.Answers.{json_of_answer, json_of_response}
+use Rattle.wit_graph_faults.specs.declared.clause.GraphClause.TheVariants as graph_clause
+use Rattle.wit_graph_faults.specs.declared.fault.GraphFault.{GraphFault}
+use Rattle.wit_graph_faults.specs.declared.place.GraphPlace.TheVariants as graph_place
+use Rattle.wit_json_commands.specs.GraphFaults.{invalid_fault}
 use Rattle.wit_json_commands.specs.Output.{json_of_fault, json_of_output}
 use Rattle.wit_json_commands.specs.Refusals.{rendered}
 use Rattle.wit_json_commands.specs.declared.replies.answers.Answer.{Answer}
@@ -207,6 +211,11 @@ a_fault =
 abbrev pub a_place : FaultPlace
 a_place = record { offset = 29; line = 1; column = 30 }
 
+-- import 0 of world 2 stands under a key that isn't its own
+abbrev pub a_graph_fault : GraphFault
+a_graph_fault =
+    record { clause = graph_clause.WorldsImports; place = graph_place.Import 2 0 }
+
 pub record ExamplesOfDocuments : Type 0 where
   -- the replies to what made another graph stand within that to its merge
   pub «merge» : response_text (response.Merge (answer.Done ∷ answer.NoWorld ∷ []) answer.Done)
@@ -224,6 +233,14 @@ pub record ExamplesOfDocuments : Type 0 where
   pub not_turned : compact (json_of_fault a_fault a_place)
       ≢ codes "{\"fault\":{\"path\":[\"commands\",0,\"add-feature\"],"
       ++ codes "\"offset\":29,\"line\":30,\"column\":1,\"expected\":\"a text\"}}"
+  -- that of an invalid graph leads to the thing, and says what is wrong with it
+  pub invalid : compact (json_of_fault (invalid_fault a_graph_fault) a_place)
+      ≡ codes "{\"fault\":{\"path\":[\"resolve\",\"graph\",\"worlds\",2,\"imports\"],"
+      ++ (codes "\"offset\":29,\"line\":1,\"column\":30,\"expected\":\"a valid graph\","
+      ++ codes "\"clause\":\"worlds.imports\",\"message\":\"import 0 of world 2 may not stand under its key\"}}")
+  pub not_the_graph : compact (json_of_fault (invalid_fault a_graph_fault) a_place)
+      ≢ codes "{\"fault\":{\"path\":[\"resolve\",\"graph\"],\"offset\":29,\"line\":1,\"column\":30,"
+      ++ codes "\"expected\":\"a valid graph\"}}"
   -- nothing was asked of an empty graph
   pub nothing : compact
       (json_of_output [] new_state.graph new_state.features Published new_state.source_map)

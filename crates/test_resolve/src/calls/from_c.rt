@@ -121,7 +121,8 @@ const DOCUMENTS: [(&[u8], &str); 8] = [
     (
         b"{\"commands\":[],\"resolve\":{\"graph\":{\"worlds\":[],\"interfaces\":[{\"name\":null,\"types\":{},\"functions\":{},\"package\":0}],\
         \"types\":[],\"packages\":[]}}}",
-        "1 77 {\"fault\":{\"path\":[\"resolve\",\"graph\"],\"offset\":34,\"expected\":\"a valid graph\"}}",
+        "1 220 {\"fault\":{\"path\":[\"resolve\",\"graph\",\"interfaces\",0],\"offset\":61,\"expected\":\"a valid graph\",\
+        \"clause\":\"tables.interfaces_listed\",\"message\":\"interface 0 has no package, or isn't in the table of its package under its name\"}}",
     ),
     (b"", WITH_ALL_FEATURES),
     (

@@ -1,8 +1,8 @@
 //! A valid graph, and for each clause of validity a graph that breaks it. That no key of a table comes twice
 //! can't be broken, since a table doesn't take a key twice.
 use crate::fixtures::{
-    function, interface, interface_key, interface_owner, label, one, package_name, string, type_at,
-    type_def, world,
+    assert_text, function, interface, interface_key, interface_owner, label, one, package_name,
+    string, type_at, type_def, world,
 };
 use indexmap::IndexMap;
 use std::alloc::Global;
@@ -13,6 +13,7 @@ use wit_data::{
     WorldInclude, WorldItem, WorldKey,
 };
 use wit_graph_data::{Graph, Package};
+use wit_graph_faults::find_graph_fault;
 use wit_validity::is_valid;
 
 /// What is changed of a valid graph.
@@ -56,42 +57,139 @@ pub(crate) enum Breach {
     ExportsInConflict,
 }
 
-const BREACHES: [Breach; 35] = [
-    Breach::NameOfOther,
-    Breach::PackageNotNamed,
-    Breach::InterfaceNotInTable,
-    Breach::InterfaceWithoutPackage,
-    Breach::WorldNotInTable,
-    Breach::InterfaceInOtherTable,
-    Breach::WorldInOtherTable,
-    Breach::NamespaceNotKebab,
-    Breach::PackageNotKebab,
-    Breach::InterfaceNotKebab,
-    Breach::TypeNotListed,
-    Breach::OwnerWithoutName,
-    Breach::NameWithoutOwner,
-    Breach::TypeOfOtherListed,
-    Breach::FunctionUnderOtherName,
-    Breach::AliasOfUnnamed,
-    Breach::UnnamedAlias,
-    Breach::PartOfOther,
-    Breach::ParameterOfOther,
-    Breach::ImportUnderOtherName,
-    Breach::ExportUnderOtherName,
-    Breach::ImportTakesOther,
-    Breach::ExportTakesOther,
-    Breach::UnnamedInTwoPlaces,
-    Breach::UnnamedOfOtherImported,
-    Breach::UnnamedOfOtherExported,
-    Breach::Includes,
-    Breach::KindUnknown,
-    Breach::InterfaceUsesItself,
-    Breach::TypeRefersToItself,
-    Breach::PackageDependsOnItself,
-    Breach::UserBeforeUsed,
-    Breach::TypeNotThere,
-    Breach::InterfaceNotThere,
-    Breach::ExportsInConflict,
+/// Each breach, and why the graph isn't valid then.
+const BREACHES: [(Breach, &'static str); 35] = [
+    (
+        Breach::NameOfOther,
+        "entry 2 among the names of packages names a package that isn't there or has another name",
+    ),
+    (
+        Breach::PackageNotNamed,
+        "package 1 isn't listed under its name",
+    ),
+    (
+        Breach::InterfaceNotInTable,
+        "interface 3 has no package, or isn't in the table of its package under its name",
+    ),
+    (
+        Breach::InterfaceWithoutPackage,
+        "interface 4 has no package, or isn't in the table of its package under its name",
+    ),
+    (
+        Breach::WorldNotInTable,
+        "world 0 has no package, or isn't in the table of its package under its name",
+    ),
+    (
+        Breach::InterfaceInOtherTable,
+        "entry 1 among the interfaces of package 1 is no interface of that name in that package",
+    ),
+    (
+        Breach::WorldInOtherTable,
+        "entry 0 among the worlds of package 1 is no world of that name in that package",
+    ),
+    (
+        Breach::NamespaceNotKebab,
+        "package 0 has a namespace that is no kebab name",
+    ),
+    (
+        Breach::PackageNotKebab,
+        "package 0 has a name that is no kebab name",
+    ),
+    (
+        Breach::InterfaceNotKebab,
+        "interface 3 has a name that is no kebab name",
+    ),
+    (
+        Breach::TypeNotListed,
+        "type 5 has an owner that doesn't list it under its name, or a name without an owner",
+    ),
+    (
+        Breach::OwnerWithoutName,
+        "type 5 has an owner that doesn't list it under its name, or a name without an owner",
+    ),
+    (
+        Breach::NameWithoutOwner,
+        "type 6 has an owner that doesn't list it under its name, or a name without an owner",
+    ),
+    (
+        Breach::TypeOfOtherListed,
+        "entry 1 among the types of interface 3 is no type of that name that the interface owns",
+    ),
+    (
+        Breach::FunctionUnderOtherName,
+        "function 0 of interface 0 stands under another name",
+    ),
+    (
+        Breach::AliasOfUnnamed,
+        "type 2 is an alias of no named type of its owner, and of none of a named interface",
+    ),
+    (
+        Breach::UnnamedAlias,
+        "type 1 has no name, and is an alias or a resource",
+    ),
+    (
+        Breach::PartOfOther,
+        "type 2 refers to a type of another owner, other than as an alias",
+    ),
+    (
+        Breach::ParameterOfOther,
+        "function 0 of interface 0 refers to a type that the interface doesn't own, or that isn't there",
+    ),
+    (
+        Breach::ImportUnderOtherName,
+        "import 4 of world 0 may not stand under its key",
+    ),
+    (
+        Breach::ExportUnderOtherName,
+        "export 0 of world 0 may not stand under its key",
+    ),
+    (
+        Breach::ImportTakesOther,
+        "import 4 of world 0 refers to a type that the world doesn't own, or that isn't there",
+    ),
+    (
+        Breach::ExportTakesOther,
+        "export 0 of world 0 refers to a type that the world doesn't own, or that isn't there",
+    ),
+    (
+        Breach::UnnamedInTwoPlaces,
+        "interface 2 has no name and stands in two places of worlds",
+    ),
+    (
+        Breach::UnnamedOfOtherImported,
+        "import 2 of world 0 is an interface without a name of another package",
+    ),
+    (
+        Breach::UnnamedOfOtherExported,
+        "export 1 of world 0 is an interface without a name of another package",
+    ),
+    (Breach::Includes, "world 0 has includes"),
+    (Breach::KindUnknown, "type 5 is of an unknown kind"),
+    (
+        Breach::InterfaceUsesItself,
+        "interface 4 uses itself, through whatever others",
+    ),
+    (
+        Breach::TypeRefersToItself,
+        "type 1 refers to itself, through whatever others",
+    ),
+    (
+        Breach::PackageDependsOnItself,
+        "package 1 depends on itself, through whatever others",
+    ),
+    (Breach::UserBeforeUsed, "world 0 isn't its own elaboration"),
+    (
+        Breach::TypeNotThere,
+        "type 1 refers to a type that isn't there",
+    ),
+    (
+        Breach::InterfaceNotThere,
+        "entry 1 among the interfaces of package 1 is no interface of that name in that package",
+    ),
+    (
+        Breach::ExportsInConflict,
+        "world 0 isn't its own elaboration",
+    ),
 ];
 
 /// The ids of packages `foo:bar` and `foo:baz`.
@@ -108,8 +206,25 @@ fn is_valid_with(rt: &impl Abort, alloc: Global, breach: Breach) -> bool {
 #[test]
 fn each_clause_of_validity_is_asked(rt: HostRuntime) {
     assert_eq!(rt; is_valid_with(&rt, rt.alloc(), Breach::Nothing), true);
-    for &breach in &BREACHES {
+    for &(breach, _) in &BREACHES {
         assert_eq!(rt; is_valid_with(&rt, rt.alloc(), breach), false, "{breach:?}");
+    }
+}
+
+/// Why the graph with this change isn't valid, or nothing.
+fn fault_with(rt: &impl Abort, alloc: Global, breach: Breach) -> String {
+    let graph = graph(rt, alloc, breach);
+    match find_graph_fault(alloc, &graph).expect(rt, "memory") {
+        Some(fault) => format!(in alloc; "{fault}").expect(rt, "memory"),
+        None => String::new(alloc),
+    }
+}
+
+#[test]
+fn faults_of_graphs_are_told(rt: HostRuntime) {
+    assert_text(&rt, fault_with(&rt, rt.alloc(), Breach::Nothing), "");
+    for &(breach, wanted) in &BREACHES {
+        assert_text(&rt, fault_with(&rt, rt.alloc(), breach), wanted);
     }
 }
 

@@ -8,13 +8,13 @@ use Rattle.wit_json_reading.specs.declared.fault.ReadError.TheVariants as error
 use Rattle.wit_json_commands.specs.declared.commands.orders.Order.{Order}
 use Rattle.wit_json_commands.specs.Output.{json_of_output}
 use Rattle.wit_json_commands.specs.declared.replies.answers.Response.{Response}
-use Rattle.wit_json_commands.specs.Documents.{BeginsValid, IsFaultOf, first_state, invalid_fault}
+use Rattle.wit_json_commands.specs.Documents.{BeginsValid, IsFaultOf, TellsInvalid, first_state}
 use Rattle.wit_json_commands.specs.Runs.{RespondsEach}
 
 -- the state with which a document begins, or the fault of a graph that isn't valid
 abbrev pub Begins : Option ResolveParts → Result State ReadError → Type 0
 Begins parts (Ok state) = BeginsValid parts × (state ≡ first_state parts)
-Begins parts (Err (error.Fault fault)) = (BeginsValid parts → ⊥) × (fault ≡ invalid_fault)
+Begins parts (Err (error.Fault fault)) = TellsInvalid parts fault
 Begins parts (Err error.OutOfMemory) = Unit {0}
 
 -- why nothing is carried out; want of memory may always be answered

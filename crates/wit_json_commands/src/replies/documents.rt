@@ -5,13 +5,16 @@ ghost use Rattle.wit_json.specs.Graph.{compact};
 ghost use Rattle.wit_json.specs.Values.{json_of_text, member};
 ghost use Rattle.wit_json.specs.steps.Members.{Adds};
 ghost use Rattle.wit_json_reading.specs.Messages.{expected_text};
-ghost use Rattle.wit_json_commands.specs.Output.{json_of_fault, json_of_output, json_of_path, json_of_place, json_of_step};
+ghost use Rattle.wit_json_commands.specs.Output.{json_of_fault, json_of_output, json_of_path, json_of_place, json_of_step, reason_members};
+ghost use Rattle.wit_graph_faults.specs.FaultText.{graph_clause_name, graph_fault_text};
 
 use super::answers::Response;
 use super::file_places::write_number;
+use super::unshaped::write_text;
 use std::alloc::{AllocError, Global};
 use wit_data::{Items, SourceMap, TrackRule};
 use wit_graph_data::{Features, Graph};
+use wit_graph_faults::{GraphClause, GraphFault};
 use wit_json::JsonText;
 use wit_json_reading::{Expected, Fault, FaultPlace, Step};
 
@@ -78,7 +81,43 @@ fn write_expected(out: &mut JsonText, expected: Expected) -> Result<(), AllocErr
     out.string(text.as_str())
 }
 
-/// Writes the path to a fault, where its value begins, and what was expected there.
+/// Writes the members that have why a graph isn't valid, where that is the fault.
+fn write_reason(out: &mut JsonText, expected: Expected) -> Result<(), AllocError>
+    ensures { OnOk result (Adds out.old out.new (reason_members expected)) }
+{
+    match expected {
+        Expected::ValidGraph(reason) => write_graph_fault(out, reason),
+        _ => Ok(()),
+    }
+}
+
+/// Writes the clause that a graph breaks, and the thing with what is said of it.
+fn write_graph_fault(out: &mut JsonText, reason: GraphFault) -> Result<(), AllocError>
+    ensures { OnOk result (Adds out.old out.new
+        (member (codes "clause") (json_of_text (graph_clause_name reason.clause))
+        ++ member (codes "message") (json_of_text (graph_fault_text reason)))) }
+{
+    write_clause(out, reason.clause)?;
+    write_message(out, reason)
+}
+
+fn write_clause(out: &mut JsonText, clause: GraphClause) -> Result<(), AllocError>
+    ensures { OnOk result (Adds out.old out.new
+        (member (codes "clause") (json_of_text (graph_clause_name clause)))) }
+{
+    write_text(out, "clause", clause.name())
+}
+
+fn write_message(out: &mut JsonText, reason: GraphFault) -> Result<(), AllocError>
+    ensures { OnOk result (Adds out.old out.new
+        (member (codes "message") (json_of_text (graph_fault_text reason)))) }
+{
+    let alloc = out.allocator();
+    let text = format!(in alloc; "{reason}")?;
+    write_text(out, "message", text.as_str())
+}
+
+/// Writes the path to a fault, where its value begins, what was expected there, and of a graph why it isn't valid.
 fn write_place(out: &mut JsonText, fault: &Fault, place: FaultPlace) -> Result<(), AllocError>
     ensures { OnOk result (out.new ≡ out.old ++ json_tokens (json_of_place fault.now place)) }
 {
@@ -88,6 +127,7 @@ fn write_place(out: &mut JsonText, fault: &Fault, place: FaultPlace) -> Result<(
     write_number(out, "line", place.line)?;
     write_number(out, "column", place.column)?;
     write_expected(out, fault.expected)?;
+    write_reason(out, fault.expected)?;
     out.end_object()
 }
 

@@ -72,7 +72,7 @@ fn write_path_member(out: &mut JsonText, unshaped: &Unshaped) -> Result<(), Allo
 }
 
 /// Writes a member whose value is a text.
-fn write_text(out: &mut JsonText, name: &str, text: &str) -> Result<(), AllocError>
+pub(super) fn write_text(out: &mut JsonText, name: &str, text: &str) -> Result<(), AllocError>
     ensures { OnOk result (Adds out.old out.new (member name.now (json_of_text text.now))) }
 {
     out.key(name)?;

@@ -1,14 +1,14 @@
 //! From the bytes of a document to those of the one that comes out.
-ghost use Rattle.std.specs.Prelude.{◌≡◌, ◌⊎◌, [], Bool, Err, List, Some, ℕ, true, IfErr, IfOk, IfSome, OnOk, IsErrOf, string_bytes};
+ghost use Rattle.std.specs.Prelude.{◌≡◌, ◌⊎◌, [], Bool, List, Some, ℕ, true, IfErr, IfOk, IfSome, OnOk, IsErrOf, string_bytes};
 ghost use Rattle.std.specs.Str.{IsUtf8};
 ghost use Rattle.std.specs.Io.KnownBytes.{Appends};
 ghost use Rattle.wit_streams.specs.Watched.{AppendsBeginning};
 ghost use Rattle.wit_json.specs.Graph.{compact};
 ghost use Rattle.wit_json_commands.specs.Output.{json_of_output};
-ghost use Rattle.wit_json_reading.specs.Reading.{Reads};
-ghost use Rattle.wit_json_commands.specs.Documents.{ComesOut, ComesOutOfBytes, TellsPlace, Understands, invalid_fault};
+ghost use Rattle.wit_json_commands.specs.Documents.{ComesOut, ComesOutOfBytes, TellsPlace, Understands};
 ghost use Rattle.wit_json_commands.specs.steps.Outcomes.{Begins, TellsFaultOf, WritesOutput};
 
+use super::graph_faults::no_valid_graph;
 use super::long_answers::without_long_answers;
 use super::orders::responses_to;
 use crate::commands::{Document, Order};
@@ -16,7 +16,7 @@ use crate::replies::{Response, fault_to_json, output_to_json};
 use std::alloc::{AllocError, Global};
 use std::io::{Read, Write};
 use wit_json_graphs::ResolveParts;
-use wit_json_reading::{Expected, Fault, ReadError, in_member, instead_of, place_of, read_text};
+use wit_json_reading::{Fault, ReadError, place_of, read_text};
 use wit_resolve_graph::{Items, Resolve};
 use wit_streams::{StreamFault, Watched, read_all, write_all};
 
@@ -62,19 +62,11 @@ fn given(alloc: Global, parts: ResolveParts) -> Result<Resolve, ReadError>
         source_map,
         track_rule,
     } = parts;
-    match Resolve::of_graph(alloc, graph, features, source_map, track_rule) {
-        Ok(Some(resolve)) => Ok(resolve),
-        Ok(None) => no_valid_graph(alloc),
+    match Resolve::of_graph_or_fault(alloc, graph, features, source_map, track_rule) {
+        Ok(Ok(resolve)) => Ok(resolve),
+        Ok(Err(fault)) => no_valid_graph(alloc, fault),
         Err(_) => Err(ReadError::OutOfMemory),
     }
-}
-
-/// The fault of a document whose graph isn't valid.
-pub fn no_valid_graph(alloc: Global) -> Result<Resolve, ReadError>
-    ensures { Reads result (Err invalid_fault) }
-{
-    let fault = in_member(alloc, instead_of(alloc, Expected::ValidGraph), "graph");
-    in_member(alloc, fault, "resolve")
 }
 
 /// What comes out of a document that can't be read, or whose graph isn't valid.

@@ -13,6 +13,8 @@ returns c = record {
   fault = refl;
   not_upwards = differ _ _ refl;
   not_turned = differ _ _ refl;
+  invalid = refl;
+  not_the_graph = differ _ _ refl;
   nothing = refl;
   not_published = differ _ _ refl;
 }

@@ -2,7 +2,7 @@ use Rattle.std.proofs.Common.{List, arith}
 use Rattle.wit_data.specs.Foreign.{ForeignItem, IsForeign}
 use Rattle.wit_data.specs.facts.EachFacts.{all_of}
 use Rattle.wit_names.specs.declared.package_name.PackageName.{PackageName}
-use Rattle.wit_shape.proofs.Found.{within_more}
+use Rattle.wit_shape.specs.facts.Found.{within_more}
 use Rattle.wit_shape.proofs.foreign.items.Goals as goal
 
 pub loop-package-preserved : goal.loop-package-preserved

@@ -8,7 +8,7 @@ use Rattle.wit_digraph.specs.steps.PostOrder.{Listed}
 use Rattle.wit_data.specs.facts.EachFacts.{all_of, one_more}
 use Rattle.wit_shape.specs.facts.DistinctFacts.{apart_push}
 use Rattle.wit_shape.specs.facts.IdFacts.{are_first}
-use Rattle.wit_shape.proofs.Found.{id_at}
+use Rattle.wit_shape.specs.facts.Found.{id_at}
 use Rattle.wit_shape.specs.Faults.{IsNewFirst}
 use Rattle.wit_shape.proofs.foreign.misplaced_id.Goals as goal
 

@@ -5,7 +5,7 @@ use Rattle.std.proofs.lemmas.List.{take_all}
 use Rattle.wit_data.specs.Shape.{interface_names}
 use Rattle.wit_data.specs.facts.EachFacts.{one_more, one_skip}
 use Rattle.wit_data.specs.declared.interface.Interface.{Interface}
-use Rattle.wit_shape.proofs.Found.{ended, first_at, read}
+use Rattle.wit_shape.specs.facts.Found.{ended, first_at, read}
 use Rattle.wit_shape.proofs.NameLists.{differ_more, no_interfaces, none_there, one_interface}
 use Rattle.wit_shape.specs.Faults.{foreign_interface_count}
 use Rattle.wit_shape.specs.declared.place.ShapePlace.TheVariants as place

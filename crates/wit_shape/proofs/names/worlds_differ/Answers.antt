@@ -7,7 +7,7 @@ use Rattle.wit_data.specs.Shape.{world_names}
 use Rattle.wit_data.specs.facts.EachFacts.{one_more, one_skip}
 use Rattle.wit_data.specs.declared.world.World.{World}
 use Rattle.wit_shape.specs.facts.DistinctFacts.{apart_push}
-use Rattle.wit_shape.proofs.Found.{ended, first_at, read}
+use Rattle.wit_shape.specs.facts.Found.{ended, first_at, read}
 use Rattle.wit_shape.proofs.NameLists.{no_worlds, not_there, one_world}
 use Rattle.wit_shape.specs.Faults.{foreign_world_count}
 use Rattle.wit_shape.specs.declared.place.ShapePlace.TheVariants as place

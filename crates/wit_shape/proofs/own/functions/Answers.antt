@@ -1,5 +1,5 @@
 use Rattle.wit_data.specs.facts.EachFacts.{all_of}
-use Rattle.wit_shape.proofs.Found.{read, within_at, within_more}
+use Rattle.wit_shape.specs.facts.Found.{read, within_at, within_more}
 use Rattle.std.proofs.Common.{refl, ℕ, List}
 use Rattle.wit_data.specs.declared.function.Function.{Function}
 use Rattle.wit_data.specs.declared.interface.Interface.{Interface}

@@ -1,6 +1,6 @@
 use Rattle.std.proofs.Common.{refl}
 use Rattle.wit_data.specs.facts.EachFacts.{all_of}
-use Rattle.wit_shape.proofs.Found.{read, within_at, within_more}
+use Rattle.wit_shape.specs.facts.Found.{read, within_at, within_more}
 use Rattle.wit_data.specs.Entries.{Entry, ItemUsesOwn}
 use Rattle.wit_data.specs.declared.world.World.{World}
 use Rattle.wit_shape.specs.declared.place.ShapePlace.TheVariants as place

@@ -1,6 +1,6 @@
 use Rattle.std.proofs.Common.{refl}
 use Rattle.wit_data.specs.facts.EachFacts.{all_of, more}
-use Rattle.wit_shape.proofs.Found.{first_at, read}
+use Rattle.wit_shape.specs.facts.Found.{first_at, read}
 use Rattle.wit_data.specs.Ownership.{IsListed}
 use Rattle.wit_data.specs.declared.types.TypeDef.{TypeDef}
 use Rattle.wit_shape.specs.declared.place.ShapePlace.TheVariants as place

@@ -1,5 +1,5 @@
 use Rattle.wit_data.specs.facts.EachFacts.{all_of, more}
-use Rattle.wit_shape.proofs.Found.{ended, first_at, read}
+use Rattle.wit_shape.specs.facts.Found.{ended, first_at, read}
 use Rattle.std.proofs.Common.{◌<◌}
 use Rattle.wit_data.specs.Each.{Each}
 use Rattle.wit_data.specs.Kind.{referred}

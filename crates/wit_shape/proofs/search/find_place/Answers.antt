@@ -4,7 +4,7 @@ use Rattle.wit_data.specs.facts.ReferenceFacts.{IsAcyclic-references}
 use Rattle.wit_data.specs.Kind.{type_references}
 use Rattle.wit_data.specs.declared.types.TypeDef.{TypeDef}
 use Rattle.wit_digraph.specs.Relation.{IsAcyclic}
-use Rattle.wit_shape.proofs.UsesInRange.{uses_in_range}
+use Rattle.wit_shape.specs.facts.UsesInRange.{uses_in_range}
 use Rattle.wit_shape.specs.Faults.{KeepsBefore, Tells}
 use Rattle.wit_shape.specs.declared.clause.ShapeClause.{ShapeClause}
 use Rattle.wit_shape.specs.declared.clause.ShapeClause.TheVariants as clause

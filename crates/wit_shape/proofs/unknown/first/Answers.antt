@@ -1,7 +1,7 @@
 use Rattle.std.proofs.Common.{◌≡◌, ◌<◌, ◌≤◌, ap, arith, inr, length}
 use Rattle.std.specs.Prelude.{◌↔◌}
 use Rattle.wit_data.specs.facts.EachFacts.{all_of, more}
-use Rattle.wit_shape.proofs.Found.{ended, first_at, read}
+use Rattle.wit_shape.specs.facts.Found.{ended, first_at, read}
 use Rattle.wit_data.specs.declared.types.TypeDef.{TypeDef}
 use Rattle.wit_data.specs.declared.types.TypeDefKind.TheVariants as kind
 use Rattle.wit_shape.specs.declared.place.ShapePlace.TheVariants as place

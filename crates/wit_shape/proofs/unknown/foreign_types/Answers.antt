@@ -1,7 +1,7 @@
 use Rattle.std.proofs.Common.{◌<◌}
 use Rattle.wit_data.specs.Foreign.{IsForeignType}
 use Rattle.wit_data.specs.facts.EachFacts.{all_of, more}
-use Rattle.wit_shape.proofs.Found.{ended, first_at, read}
+use Rattle.wit_shape.specs.facts.Found.{ended, first_at, read}
 use Rattle.wit_data.specs.declared.types.TypeDef.{TypeDef}
 use Rattle.wit_shape.specs.Faults.{foreign_interface_count, unknown_count}
 use Rattle.wit_shape.specs.declared.place.ShapePlace.TheVariants as place

@@ -1,6 +1,6 @@
 use Rattle.std.proofs.Common.{ℕ, ◌<◌, List}
 use Rattle.wit_data.specs.facts.EachFacts.{all_of}
-use Rattle.wit_shape.proofs.Found.{ended, read, within_at, within_more}
+use Rattle.wit_shape.specs.facts.Found.{ended, read, within_at, within_more}
 use Rattle.wit_data.specs.declared.interface.Interface.{Interface}
 use Rattle.wit_shape.specs.Faults.{foreign_interface_count, unknown_count}
 use Rattle.wit_shape.specs.declared.place.ShapePlace.TheVariants as place

@@ -1,5 +1,5 @@
 use Rattle.std.proofs.Common.{arith}
-use Rattle.wit_shape.proofs.Prefixes.{none, not_all, some_there}
+use Rattle.wit_shape.specs.facts.Prefixes.{none, not_all, some_there}
 use Rattle.wit_shape.proofs.uses.first_on_cycle.Goals as goal
 
 pub loop-acyclic-init : goal.loop-acyclic-init

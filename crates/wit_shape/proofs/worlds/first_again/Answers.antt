@@ -7,7 +7,7 @@ use Rattle.std.proofs.lemmas.Option.{slice_get-get_or}
 use Rattle.wit_digraph.specs.steps.PostOrder.{Listed}
 use Rattle.wit_data.specs.facts.EachFacts.{one_more}
 use Rattle.wit_shape.specs.facts.DistinctFacts.{apart_push}
-use Rattle.wit_shape.proofs.Found.{id_at}
+use Rattle.wit_shape.specs.facts.Found.{id_at}
 use Rattle.wit_shape.proofs.worlds.first_again.Goals as goal
 
 pub loop-number-init : goal.loop-number-init

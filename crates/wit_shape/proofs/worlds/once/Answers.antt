@@ -4,7 +4,7 @@ use Rattle.std.specs.List.{IsDistinct}
 use Rattle.wit_data.specs.Each.{Each}
 use Rattle.wit_data.specs.Entries.{is_unnamed}
 use Rattle.wit_shape.proofs.Unnamed.{unnamed_below}
-use Rattle.wit_shape.proofs.Found.{moved_at}
+use Rattle.wit_shape.specs.facts.Found.{moved_at}
 use Rattle.wit_shape.specs.Faults.{unnamed_in_worlds}
 use Rattle.wit_shape.specs.declared.place.ShapePlace.TheVariants as place
 use Rattle.wit_shape.proofs.worlds.once.Goals as goal

@@ -1,0 +1,4 @@
+pub mod Clauses
+mod Carried
+pub mod OneFault
+pub mod Ranges

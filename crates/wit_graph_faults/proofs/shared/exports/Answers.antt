@@ -1,0 +1,10 @@
+use Rattle.std.proofs.Common.{refl}
+use Rattle.wit_data.specs.Entries.{Entry, IsExport}
+use Rattle.wit_data.specs.declared.world.World.{World}
+use Rattle.wit_shape.specs.declared.place.ShapePlace.TheVariants as shape
+use Rattle.wit_graph_faults.proofs.Carried.{carried_within}
+use Rattle.wit_graph_faults.specs.declared.place.GraphPlace.TheVariants as place
+use Rattle.wit_graph_faults.proofs.shared.exports.Goals as goal
+
+pub returns : goal.returns
+returns c = carried_within shape.Export place.Export (λ i k. refl) (λ _ (world : World) (e : Entry). IsExport c.args.interfaces.now e.0 e.1) (λ (world : World). world.exports) c.args.worlds.now _ c.in_graph.result c.in_graph.ensures c.exports.ensures

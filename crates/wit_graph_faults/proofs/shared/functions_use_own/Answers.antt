@@ -1,0 +1,12 @@
+use Rattle.std.proofs.Common.{ℕ, List, refl}
+use Rattle.wit_data.specs.Ownership.{UsesOwn}
+use Rattle.wit_data.specs.declared.function.Function.{Function}
+use Rattle.wit_data.specs.declared.interface.Interface.{Interface}
+use Rattle.wit_data.specs.declared.types.TypeOwner.TheVariants as owner
+use Rattle.wit_shape.specs.declared.place.ShapePlace.TheVariants as shape
+use Rattle.wit_graph_faults.proofs.Carried.{carried_within}
+use Rattle.wit_graph_faults.specs.declared.place.GraphPlace.TheVariants as place
+use Rattle.wit_graph_faults.proofs.shared.functions_use_own.Goals as goal
+
+pub returns : goal.returns
+returns c = carried_within shape.Function place.Function (λ i k. refl) (λ f (interface : Interface) (e : List ℕ × Function). UsesOwn c.args.types.now (owner.Interface f) e.1) (λ (interface : Interface). interface.functions) c.args.interfaces.now _ c.in_graph.result c.in_graph.ensures c.in_ok-functions.ensures

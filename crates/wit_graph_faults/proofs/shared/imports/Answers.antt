@@ -1,0 +1,10 @@
+use Rattle.std.proofs.Common.{refl}
+use Rattle.wit_data.specs.Entries.{Entry, IsImport}
+use Rattle.wit_data.specs.declared.world.World.{World}
+use Rattle.wit_shape.specs.declared.place.ShapePlace.TheVariants as shape
+use Rattle.wit_graph_faults.proofs.Carried.{carried_within}
+use Rattle.wit_graph_faults.specs.declared.place.GraphPlace.TheVariants as place
+use Rattle.wit_graph_faults.proofs.shared.imports.Goals as goal
+
+pub returns : goal.returns
+returns c = carried_within shape.Import place.Import (λ i k. refl) (λ w (world : World) (e : Entry). IsImport c.args.interfaces.now c.args.types.now w e.0 e.1) (λ (world : World). world.imports) c.args.worlds.now _ c.in_graph.result c.in_graph.ensures c.imports.ensures

@@ -1,0 +1,10 @@
+use Rattle.std.proofs.Common.{◌≡◌, None, refl}
+use Rattle.wit_data.specs.Ownership.{IsPlain}
+use Rattle.wit_data.specs.declared.types.TypeDef.{TypeDef}
+use Rattle.wit_shape.specs.declared.place.ShapePlace.TheVariants as shape
+use Rattle.wit_graph_faults.proofs.Carried.{carried_first}
+use Rattle.wit_graph_faults.specs.declared.place.GraphPlace.TheVariants as place
+use Rattle.wit_graph_faults.proofs.shared.unnamed.Goals as goal
+
+pub returns : goal.returns
+returns c = carried_first shape.Type_ place.Type_ (λ i. refl) (λ _ (def : TypeDef). (def.name ≡ None) → IsPlain def.kind) c.args.types.now _ c.in_graph.result c.in_graph.ensures c.unnamed.ensures

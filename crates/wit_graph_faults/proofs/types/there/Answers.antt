@@ -1,0 +1,21 @@
+use Rattle.std.proofs.Common.{refl}
+use Rattle.wit_data.specs.facts.EachFacts.{all_of, more}
+use Rattle.wit_shape.specs.facts.Found.{first_at, read}
+use Rattle.wit_graph_faults.specs.Faults.{RefersToThere}
+use Rattle.wit_graph_faults.specs.declared.place.GraphPlace.TheVariants as place
+use Rattle.wit_graph_faults.proofs.types.there.Goals as goal
+
+pub returns-then-not-branch : goal.returns-then-not-branch
+returns-then-not-branch c =
+    first_at place.Type_ (λ _. RefersToThere c.args.types.now) c.args.types.now c.loop-index.index _ c.index-types-index.result _ c.loop-index.invariant
+    (read c.args.types.now _ refl c.loop-index.index c.index-types-index.result c.loop-index-test.true c.index-types-index.is)
+    c.in_ok-refers_back.ensures c.if-not-branch.true c.from_index.ensures
+
+pub loop-index-preserved : goal.loop-index-preserved
+loop-index-preserved c =
+    more c.loop-index.invariant c.index-types-index.result
+    (read c.args.types.now _ refl c.loop-index.index c.index-types-index.result c.loop-index-test.true c.index-types-index.is)
+    c.in_ok-refers_back.ensures c.if-not-branch.false
+
+pub returns : goal.returns
+returns c = all_of c.loop-index.invariant c.loop-index-test.false
