@@ -2,7 +2,7 @@
 ghost use Rattle.std.specs.Prelude.{◌≡◌};
 ghost use Rattle.json.specs.Json as json;
 ghost use Rattle.json.specs.Value.{value_view};
-ghost use Rattle.wit_json_commands.specs.Orders.{read_document, is_change, read_order_by, read_order, read_request_by, read_request};
+ghost use Rattle.wit_json_commands.specs.Orders.{read_document, read_strict_document, is_change, read_order_by, read_order, read_request_by, read_request};
 ghost use Rattle.wit_json_reading.specs.Reading.{Reads};
 
 use super::changes::change_by;
@@ -12,6 +12,7 @@ use std::alloc::Global;
 use wit_commands::Change;
 use wit_data::Items;
 use wit_json_graphs::ResolveParts;
+use wit_json_layout::{Layout, known_part};
 use wit_json_reading::{
     Expected, ReadError, ReadJson, in_member, instead_of, one_member, only, optional, required,
 };
@@ -123,9 +124,20 @@ impl ReadJson for Document {
 
     #[tactic(auto, unfolding(crate::specs::Orders::read_document))]
     fn read_json(alloc: Global, value: &Value<'_>) -> Result<Document, ReadError> {
-        only(alloc, value, &["resolve", "commands"])?;
-        let resolve = optional(alloc, value, "resolve")?;
-        let commands = required(alloc, value, "commands")?;
-        Ok(Document { resolve, commands })
+        match optional(alloc, value, "lenient")? {
+            Some(true) => strict_document(alloc, &known_part(alloc, Layout::Document, value)?),
+            _ => strict_document(alloc, value),
+        }
     }
+}
+
+/// A document without members that its layout hasn't.
+#[tactic(auto, unfolding(crate::specs::Orders::read_strict_document))]
+fn strict_document(alloc: Global, value: &Value<'_>) -> Result<Document, ReadError>
+    ensures { Reads result (read_strict_document (value_view value.now)) }
+{
+    only(alloc, value, &["resolve", "commands", "lenient"])?;
+    let resolve = optional(alloc, value, "resolve")?;
+    let commands = required(alloc, value, "commands")?;
+    Ok(Document { resolve, commands })
 }
