@@ -16,7 +16,8 @@ abbrev pub told_more : Told
 told_more = record { worlds = 2; interfaces = 2; types = 2; packages = 2; files = 3 }
 
 pub record ExamplesOfNews : Type 0 where
-  pub interface : compact (json_of_news told_some small_graph two_features WithPrereleases two_files)
+  pub interface : compact
+      (json_of_news told_some small_graph two_features WithPrereleases two_files)
       ≡ codes "{\"from\":{\"worlds\":1,\"interfaces\":0,\"types\":1,\"packages\":1,\"sources\":1},"
       ++ codes "\"graph\":{\"worlds\":[],\"interfaces\":[{\"name\":\"i\",\"types\":{},"
       ++ codes "\"functions\":{},\"package\":null}],\"types\":[],\"packages\":[]},"
