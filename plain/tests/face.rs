@@ -302,7 +302,7 @@ fn a_graph_that_is_not_valid_is_none() {
     assert!(of(broken.clone()).is_none());
     let made = Resolve::of_graph_or_fault(broken, Features::default(), SourceMap::default(), TrackRule::Published);
     let fault = made.map(drop).unwrap_err();
-    assert_eq!(fault.place, GraphPlace::Type_(TypeId::from_index(0)));
+    assert_eq!(fault.place, GraphPlace::Type(TypeId::from_index(0)));
     assert_eq!(fault.to_string(), "type 0 refers to itself, through whatever others");
 }
 
