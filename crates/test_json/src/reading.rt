@@ -170,7 +170,7 @@ fn faults_are_placed(rt: HostRuntime) {
         ),
         (
             "{\"name\":null,\"kind\":{\"map\":[\"u8\", \"u9\"]}}",
-            "1:36 the name of a primitive type, or the index of a type, not \"u9\"]}}",
+            "1:35 the name of a primitive type, or the index of a type, not \"u9\"]}}",
         ),
         (
             "{\"name\":null,\n\n\"name\":true}",

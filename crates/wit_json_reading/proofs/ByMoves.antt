@@ -1,5 +1,5 @@
 -- Where a text stops being JSON, byte by byte.
-use Rattle.std.proofs.Common.{◌≡◌, ◌∙◌, ◌<◌, ◌≤◌, ◌+◌, ◌++◌, ℕ, suc, Bool, true, false, List, [], ◌∷◌, length, get_or, drop, drop-cons, Option, Some, None, refl, sym, ap, if◌then◌else◌, nat_le, arith}
+use Rattle.std.proofs.Common.{◌≡◌, ◌∙◌, ◌<◌, ◌≤◌, ◌+◌, ◌++◌, ℕ, suc, Bool, true, false, List, [], ◌∷◌, length, get_or, drop, drop-cons, Option, Some, None, sym, ap, if◌then◌else◌, nat_le, arith}
 use Rattle.std.proofs.lemmas.List.{drop_all}
 use Rattle.json.specs.Json.{max_depth}
 use Rattle.wit_json_reading.specs.Stops.{Stopped, where_ended, by_move, innermost, less_innermost, stop_from}
@@ -21,10 +21,11 @@ not_deep n x y less = grind arith
 -- a text that stops as a whole does where its first i bytes are read, and the next one makes a move
 module _ (text : List ℕ) (brackets : List Bracket) (s : State) (i : ℕ) (whole : Stopped) (so_far : stop_from brackets s i (drop i text) ≡ whole) where
   -- what comes behind it
-  behind : List Bracket → State → Stopped
+  abbrev behind : List Bracket → State → Stopped
   behind brackets s = stop_from brackets s (i + 1) (drop (i + 1) text)
 
   one_byte : (m : Move) → i < length text → m ≡ next s (innermost brackets) (get_or text i 0) → by_move brackets (awaited s (innermost brackets)) i m behind ≡ whole
+  unfolding stop_from
   one_byte m small is =
       let on : suc i ≡ i + 1 = omega arith in
       ap (λ (m : Move). by_move brackets (awaited s (innermost brackets)) i m behind) is
@@ -61,6 +62,7 @@ module _ (text : List ℕ) (brackets : List Bracket) (s : State) (i : ℕ) (whol
   closes around m small around_is is same = made around m Close small around_is is same
 
   ended : length text ≤ i → where_ended brackets s i ≡ whole
+  unfolding stop_from
   ended end = sym (ap (stop_from brackets s i) (drop_all i text end)) ∙ so_far
 
   pub ends_well : (around : Option Bracket) → length text ≤ i → around ≡ innermost brackets → may_end s around ≡ true → None ≡ whole

@@ -1,5 +1,5 @@
 -- Lines and columns one byte further.
-use Rattle.std.proofs.Common.{◌≡◌, ◌∙◌, ◌==◌, ◌<◌, ◌≤◌, ◌+◌, ◌-◌, ℕ, suc, Bool, true, false, not, List, [], ◌∷◌, ◌++◌, length, get_or, take, drop, refl, sym, ap, cond, length-take-le, arith}
+use Rattle.std.proofs.Common.{◌≡◌, ◌∙◌, ◌==◌, ◌<◌, ◌≤◌, ◌+◌, ◌-◌, ℕ, Bool, true, false, not, List, [], ◌∷◌, ◌++◌, length, get_or, take, drop, ap, cond, length-take-le, arith}
 use Rattle.std.specs.Fmt.{is_char_start}
 use Rattle.std.specs.List.{count_by, suffix_len}
 use Rattle.std.proofs.lemmas.List.{drop_all, drop-append-le, take_more}

@@ -1,5 +1,5 @@
 //! Whole texts.
-ghost use Rattle.std.specs.Prelude.{◌≡◌, IfOk};
+ghost use Rattle.std.specs.Prelude.{◌≡◌, ◌≤◌, IfOk, length};
 ghost use Rattle.wit_json_reading.specs.Documents.{expected_at, read_from};
 ghost use Rattle.wit_json_reading.specs.Places.{IsOffsetOf, IsPlaceOf, is_of_text, stop_offset};
 ghost use Rattle.wit_json_reading.specs.Reading.{Reads, instead_of};
@@ -66,7 +66,8 @@ fn is_of_text(expected: Expected) -> bool
 
 /// How many bytes of a text are the beginning of JSON.
 fn stop_offset(alloc: Global, text: &str) -> Result<usize, AllocError>
-    ensures { IfOk result (λ offset. offset ≡ stop_offset text.now) }
+    ensures value { IfOk result (λ offset. offset ≡ stop_offset text.now) }
+    ensures within { IfOk result (λ offset. offset ≤ length text.now) }
 {
     match first_stop(alloc, text)? {
         Some((offset, _)) => Ok(offset),

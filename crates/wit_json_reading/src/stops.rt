@@ -1,5 +1,5 @@
 //! Where a text stops being JSON.
-ghost use Rattle.std.specs.Prelude.{◌≡◌, IfOk};
+ghost use Rattle.std.specs.Prelude.{◌≡◌, ◌≤◌, IfOk, IfSome, length};
 ghost use Rattle.wit_json_reading.specs.Stops.{stop_in};
 
 use crate::fault::Expected;
@@ -10,7 +10,8 @@ use std::alloc::{AllocError, Global};
 /// The first place at which a text is no beginning of JSON, and what was expected there; its end where the text ends too
 /// early. None where the text is JSON. The only error is want of memory.
 pub(crate) fn first_stop(alloc: Global, text: &str) -> Result<Option<(usize, Expected)>, AllocError>
-    ensures { IfOk result (λ stop. stop ≡ stop_in text.now) }
+    ensures value { IfOk result (λ stop. stop ≡ stop_in text.now) }
+    ensures within { IfOk result (λ stop. IfSome stop (λ it. it.0 ≤ length text.now)) }
 {
     let bytes = text.as_bytes();
     let mut brackets: Vec<Bracket> = Vec::new(alloc);
