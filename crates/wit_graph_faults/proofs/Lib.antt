@@ -1,4 +1,5 @@
-pub mod Clauses
+mod Asked
 mod Carried
+pub mod Clauses
 pub mod OneFault
 pub mod Ranges

@@ -15,7 +15,7 @@ use wit_queries::package_deps::package_uses;
 use wit_shape::uses::first_on_cycle;
 
 /// The first type with which those up to it refer to themselves, through whatever others of them.
-pub(crate) fn types(alloc: Global, types: &[TypeDef]) -> Result<Option<GraphPlace>, AllocError>
+pub(crate) fn first_type(alloc: Global, types: &[TypeDef]) -> Result<Option<GraphPlace>, AllocError>
     requires { IsInRange (type_references types.now) }
     ensures { IfOk result (λ found. FindsOnCycle place.Type_ (type_references types.now) found) }
 {
@@ -25,7 +25,7 @@ pub(crate) fn types(alloc: Global, types: &[TypeDef]) -> Result<Option<GraphPlac
 }
 
 /// The same of interfaces.
-pub(crate) fn uses(
+pub(crate) fn first_interface(
     alloc: Global,
     types: &[TypeDef],
     interfaces: &[Interface],
@@ -40,7 +40,7 @@ pub(crate) fn uses(
 }
 
 /// The same of packages.
-pub(crate) fn packages(alloc: Global, graph: &Graph) -> Result<Option<GraphPlace>, AllocError>
+pub(crate) fn first_package(alloc: Global, graph: &Graph) -> Result<Option<GraphPlace>, AllocError>
     requires { IsInRange
         (package_uses graph.now.types graph.now.interfaces graph.now.worlds graph.now.packages) }
     ensures { IfOk result (λ found.

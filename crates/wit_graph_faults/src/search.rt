@@ -55,8 +55,10 @@ fn find_place(
     ensures found { IfOk result (λ found. FindsBreach graph.now clause found) }
     ensures memory { IfErr result (λ e. e ≡ OutOfMemory) }
 {
-    let (types, interfaces) = (graph.types.as_slice(), graph.interfaces.as_slice());
-    let (worlds, packages) = (graph.worlds.as_slice(), graph.packages.as_slice());
+    let types = graph.types.as_slice();
+    let interfaces = graph.interfaces.as_slice();
+    let worlds = graph.worlds.as_slice();
+    let packages = graph.packages.as_slice();
     match clause {
         GraphClause::PackageNamesOwn => Ok(tables::own_names(packages, &graph.package_names)),
         GraphClause::PackageNamesListed => Ok(tables::listed(packages, &graph.package_names)),
@@ -75,8 +77,8 @@ fn find_place(
         GraphClause::ReferencesAliases => Ok(shared::aliases(types, interfaces)),
         GraphClause::ReferencesUnnamed => Ok(shared::unnamed(types)),
         GraphClause::TypesThere => Ok(types::there(alloc, types)?),
-        GraphClause::Types => Ok(cycles::types(alloc, types)?),
-        GraphClause::Uses => Ok(cycles::uses(alloc, types, interfaces)?),
+        GraphClause::Types => Ok(cycles::first_type(alloc, types)?),
+        GraphClause::Uses => Ok(cycles::first_interface(alloc, types, interfaces)?),
         GraphClause::ReferencesOwnTypes => Ok(shared::refers_to_own(alloc, types)?),
         GraphClause::ReferencesOwnFunctions => Ok(shared::functions_use_own(
             alloc, types, interfaces,
@@ -89,7 +91,7 @@ fn find_place(
         GraphClause::WorldsOwnImports => Ok(worlds::own_imports(interfaces, worlds)),
         GraphClause::WorldsOwnExports => Ok(worlds::own_exports(interfaces, worlds)),
         GraphClause::WorldsIncludes => Ok(worlds::includes(worlds)),
-        GraphClause::Packages => Ok(cycles::packages(alloc, graph)?),
+        GraphClause::Packages => Ok(cycles::first_package(alloc, graph)?),
         GraphClause::Canonical => worlds::elaborated(alloc, graph),
     }
 }

@@ -34,7 +34,12 @@ fn in_graph(found: Option<ShapePlace>) -> Option<GraphPlace>
         ShapePlace::Function(id, index) => Some(GraphPlace::Function(id, index)),
         ShapePlace::Import(id, index) => Some(GraphPlace::Import(id, index)),
         ShapePlace::Export(id, index) => Some(GraphPlace::Export(id, index)),
-        _ => None,
+        ShapePlace::Name
+        | ShapePlace::ForeignDepSpans
+        | ShapePlace::UnknownTypeSpans
+        | ShapePlace::RequiredResource(_)
+        | ShapePlace::ForeignItem(_, _)
+        | ShapePlace::Include(_, _) => None,
     }
 }
 

@@ -90,7 +90,8 @@ pub(crate) fn elaborated(alloc: Global, graph: &Graph) -> ResolveResult<Option<G
         graph.types.as_slice(),
         graph.interfaces.as_slice(),
     )?;
-    for (index, world) in graph.worlds.as_slice().iter().enumerate() {
+    let worlds = graph.worlds.as_slice();
+    for (index, world) in worlds.iter().enumerate() {
         if !is_canonical(alloc, &mut elaborator, graph, world)? {
             return Ok(Some(GraphPlace::World(WorldId::from_index(index))));
         }
