@@ -6,10 +6,13 @@ use Rattle.wit_script_explain.specs.declared.desk.TrackedGraph.{TrackedGraph}
 use Rattle.wit_script_explain.specs.declared.lines.ScriptLines.{ScriptLines}
 use Rattle.wit_script_explain.specs.Shown.{span_text}
 
+-- the line of an arrow
+abbrev pub way_line : ScriptLines → TrackedGraph → Arrow → List ℕ
+way_line script t a = span_text script t a.span
+
 -- `way: A -> B -> .. -> C`, and the line of each arrow
 abbrev pub way_text : ScriptLines → TrackedGraph → List Arrow → List ℕ
 way_text script t [] = []
 way_text script t (a ∷ way) =
     codes "      = way: "
-    ++ (way_names (a ∷ way)
-    ++ (codes "\n" ++ flat_map (λ (arrow : Arrow). span_text script t arrow.span) (a ∷ way)))
+    ++ (way_names (a ∷ way) ++ (codes "\n" ++ flat_map (way_line script t) (a ∷ way)))

@@ -13,6 +13,10 @@ frames_of shown packages =
     map (λ (p : Package). filter (is_one_of shown) (map (λ (e : List ℕ × ℕ). e.1) p.interfaces))
     packages
 
+-- frames without some interfaces
+abbrev pub frames_but : List ℕ → List (List ℕ) → List (List ℕ)
+frames_but others frames = map (λ frame. without frame others) frames
+
 -- a frame is whole where it has several interfaces, and all of them are among these
 abbrev pub is_whole : List ℕ → List ℕ → Bool
 is_whole targets frame = nat_lt 1 (length frame) && are_among frame targets

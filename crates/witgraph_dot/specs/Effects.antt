@@ -1,5 +1,5 @@
 -- What a command lists for worlds if it comes to something.
-use Rattle.std.specs.Prelude.{ℕ, List, [], ◌∷◌, if◌then◌else◌, slice_get, filter, not, nat_eq}
+use Rattle.std.specs.Prelude.{ℕ, List, [], ◌∷◌, if◌then◌else◌, slice_get, filter, not, nat_eq, Option}
 use Rattle.std.specs.Option.{option_map_or}
 use Rattle.wit_commands.specs.declared.change.Change.TheVariants as change
 use Rattle.wit_graph_data.specs.declared.graph.Graph.{Graph}
@@ -40,6 +40,11 @@ abbrev pub replaced : ℕ → List ℕ → List (ℕ × ℕ) → List (ℕ × �
 replaced world interfaces imports =
     and_links (filter (λ (link : ℕ × ℕ). not (nat_eq link.0 world)) imports) world interfaces
 
+-- after `importize`: what the world exported before
+abbrev pub importized_imports : Option ℕ → List ℕ → List (ℕ × ℕ) → List (ℕ × ℕ)
+importized_imports world exports imports =
+    option_map_or (λ w. replaced w exports imports) world imports
+
 -- with those of some interfaces for a world that stand on the track of something that is listed for it, one after another
 abbrev pub with_versions : TrackRule → Graph → List (ℕ × ℕ) → ℕ → List ℕ → List (ℕ × ℕ)
 with_versions rule g imports world [] = imports
@@ -57,9 +62,7 @@ with_effect after (effect.Pushes groups) listing =
       includes = pushed line_includes after.graph groups listing.includes;
     }
 with_effect after (effect.Importizes world exports) listing =
-    record listing {
-      imports = option_map_or (λ w. replaced w exports listing.imports) world listing.imports;
-    }
+    record listing { imports = importized_imports world exports listing.imports }
 with_effect after (effect.Exportizes world) listing =
     record listing {
       imports = option_map_or (λ w.

@@ -79,12 +79,14 @@ label_for i (key.Name label, item.Interface j stability docs span external_id) =
     if nat_eq j i then Some label else None
 label_for i _ = None
 
+-- a label below others, where there are any
+abbrev pub and_label : List ℕ → List ℕ → List ℕ
+and_label labels label =
+    if length labels == 0 then quoted_text label else labels ++ (codes "\\n" ++ quoted_text label)
+
 -- labels, one on a line
 abbrev pub label_lines : List (List ℕ) → List ℕ
-label_lines labels =
-    fold (λ (lines label : List ℕ).
-    if length lines == 0 then quoted_text label else lines ++ (codes "\\n" ++ quoted_text label))
-    [] labels
+label_lines labels = fold and_label [] labels
 
 -- the letter of a box of labels: of exports, and of imports
 abbrev pub box_letter : ArrowKind → List ℕ

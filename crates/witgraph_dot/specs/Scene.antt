@@ -5,7 +5,7 @@ use Rattle.wit_data.specs.declared.world.World.{World}
 use Rattle.wit_digraph.specs.PostOrder.{first_of_each}
 use Rattle.wit_graph_data.specs.Queries.{interface_direct_deps}
 use Rattle.wit_graph_data.specs.declared.graph.Graph.{Graph}
-use Rattle.witgraph_dot.specs.Bundles.{bundle, frame_arrows, whole_frames}
+use Rattle.witgraph_dot.specs.Bundles.{bundle, frame_arrows, whole_frames, frames_but}
 use Rattle.witgraph_dot.specs.Entries.{own_exports, own_imports}
 use Rattle.witgraph_dot.specs.Listed.{listed_for, has_link}
 use Rattle.witgraph_dot.specs.Sets.{are_among, is_one_of, intersection, without}
@@ -45,11 +45,17 @@ is_included v w w' =
     && are_among (own_imports (slice_get v.graph.worlds w'))
     (own_imports (slice_get v.graph.worlds w)))
 
--- the worlds to which one arrow leads in place of arrows to all that they import: no other of them includes these
+-- one of some worlds includes world w
+abbrev pub is_included_by_any : List (ℕ × ℕ) → List ℕ → ℕ → Bool
+is_included_by_any included worlds w = list_any (λ u. has_link included u w) worlds
+
+-- the worlds that no other of them includes
+abbrev pub outermost : List (ℕ × ℕ) → List ℕ → List ℕ
+outermost included worlds = filter (λ w. not (is_included_by_any included worlds w)) worlds
+
+-- the worlds to which one arrow leads in place of arrows to all that they import
 abbrev pub included_worlds : View → ℕ → List ℕ
-included_worlds v w =
-    let included = filter (is_included v w) (listed_for w v.includes) in
-    filter (λ u. not (list_any (λ other. has_link v.includes other u) included)) included
+included_worlds v w = outermost v.includes (filter (is_included v w) (listed_for w v.includes))
 
 -- ---- from worlds to interfaces and frames
 
@@ -59,8 +65,7 @@ shown_imports v w = intersection (own_imports (slice_get v.graph.worlds w)) v.in
 
 -- the frames without what world w exports, since an arrow to a frame stands for all that is in it but that
 abbrev pub import_frames : View → ℕ → List (List ℕ)
-import_frames v w =
-    map (λ frame. without frame (own_exports (slice_get v.graph.worlds w))) v.frames
+import_frames v w = frames_but (own_exports (slice_get v.graph.worlds w)) v.frames
 
 -- the arrows to what world w imports: to included worlds; of what these leave, to whole frames of what included worlds import,
 -- shown or not; and of what these leave, to what lines list and to what elaboration added

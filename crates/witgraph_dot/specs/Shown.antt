@@ -33,6 +33,12 @@ world_has_pick packages picked world = has_pick_at packages picked world.«packa
 
 -- ---- what is shown
 
+-- a world: it is picked, or nothing is, and it isn't hidden
+abbrev pub is_world_shown : Choice → List Package → World → Bool
+is_world_shown choice packages world =
+    (length choice.shown == 0 || world_has_pick packages choice.shown world)
+    && not (world_has_pick packages choice.hidden world)
+
 -- the interfaces that the worlds which are picked import and export, under whatever keys
 abbrev pub entries_of_picked : List Package → List Pick → List World → List ℕ
 entries_of_picked packages picked worlds =
@@ -61,9 +67,6 @@ shown_interfaces choice g =
     (is_interface_shown choice g.packages (entries_of_picked g.packages choice.shown g.worlds)) 0
     g.interfaces
 
--- the worlds of a graph that are shown: each that is picked, or all where nothing is, and that isn't hidden
+-- the worlds of a graph that are shown
 abbrev pub shown_worlds : Choice → Graph → List ℕ
-shown_worlds choice g =
-    indices_from (λ w (world : World).
-    (length choice.shown == 0 || world_has_pick g.packages choice.shown world)
-    && not (world_has_pick g.packages choice.hidden world)) 0 g.worlds
+shown_worlds choice g = indices_from (λ w. is_world_shown choice g.packages) 0 g.worlds

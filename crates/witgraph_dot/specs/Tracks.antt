@@ -36,7 +36,10 @@ are_versions_by_name rule (Some a) (Some b) =
 are_versions_by_name rule (Some a) None = false
 are_versions_by_name rule None b = false
 
+-- so interfaces i and j
+abbrev pub are_versions_of_one : TrackRule → Graph → ℕ → ℕ → Bool
+are_versions_of_one rule g i j = are_versions_by_name rule (full_name g i) (full_name g j)
+
 -- interface i is so with one of some
 abbrev pub is_version_of_any : TrackRule → Graph → List ℕ → ℕ → Bool
-is_version_of_any rule g some i =
-    list_any (λ j. are_versions_by_name rule (full_name g i) (full_name g j)) some
+is_version_of_any rule g some i = list_any (are_versions_of_one rule g i) some

@@ -1,8 +1,8 @@
 //! The arrows of a picture as they are written.
 ghost use Rattle.std.specs.Prelude.{◌≡◌, ◌++◌, IfOk, OnOk, Some, filter_map, option_copied, string_bytes};
 ghost use Rattle.std.specs.List.{flat_map};
-ghost use Rattle.witgraph_dot.specs.Lines.{all_labelled, arrow_end, arrow_line, arrow_lines, box_name, end_at_frame, label_for, label_lines, labelled_entries, labelled_lines, look, uses_lines, world_lines};
-ghost use Rattle.witgraph_dot.specs.steps.Parts.{inner_suffix, and_label, view_of};
+ghost use Rattle.witgraph_dot.specs.Lines.{all_labelled, arrow_end, arrow_line, arrow_lines, box_name, end_at_frame, label_for, label_lines, labelled_entries, labelled_lines, look, uses_lines, world_lines, and_label};
+ghost use Rattle.witgraph_dot.specs.steps.Parts.{inner_suffix, view_of};
 
 use crate::arrow::{Arrow, ArrowKind, Target};
 use crate::frame::has_inner_frame;

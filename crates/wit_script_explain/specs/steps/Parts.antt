@@ -6,7 +6,7 @@ use Rattle.wit_script_explain.specs.declared.lines.CommandPlace.{CommandPlace}
 use Rattle.wit_script_explain.specs.declared.lines.ScriptLines.{ScriptLines}
 use Rattle.std.specs.Option.{option_map_or, option_flatten}
 use Rattle.wit_ways.specs.declared.arrow.Arrow.{Arrow}
-use Rattle.wit_script_explain.specs.Shown.{snippet_text, span_text}
+use Rattle.wit_script_explain.specs.Shown.{snippet_text}
 use Rattle.wit_graph_data.specs.Error.{error_number}
 use Rattle.wit_graph_data.specs.ErrorText.{kind_text}
 use Rattle.wit_graph_data.specs.declared.error_kind.ResolveErrorKind.{ResolveErrorKind}
@@ -93,7 +93,3 @@ return_note line =
     if option_map_or (λ b. b == 13) (slice_get line (length line - 1)) false
     then codes "      = a carriage return ends it: lines end with a line feed alone\n"
     else []
-
--- the line of an arrow
-abbrev pub line_text : ScriptLines → TrackedGraph → Arrow → List ℕ
-line_text script t a = span_text script t a.span

@@ -1,6 +1,6 @@
 -- Parts of the definitions under names of their own, for contracts of inner functions and for proofs. Each is what stands
 -- in a definition in its place, so none has to be believed.
-use Rattle.std.specs.Prelude.{◌==◌, ℕ, Bool, true, false, List, [], ◌++◌, codes, if◌then◌else◌, length, ◌&&◌, filter, map, not, slice_get, Option, filter_map, option_and_then, decimal, Some, bytes_eq, option_to_list, find, ◌||◌, ◌-◌, nat_eq}
+use Rattle.std.specs.Prelude.{ℕ, Bool, true, false, List, [], ◌++◌, codes, if◌then◌else◌, length, ◌&&◌, filter, map, not, slice_get, Option, filter_map, option_and_then, decimal, Some, bytes_eq, option_to_list, find, ◌-◌, nat_eq}
 use Rattle.wit_graph_data.specs.declared.graph.Graph.{Graph}
 use Rattle.witgraph_dot.specs.Scene.{View, import_frames, included_imports, included_worlds, shown_imports}
 use Rattle.witgraph_dot.specs.declared.choice.Choice.{Choice}
@@ -10,7 +10,7 @@ use Rattle.std.specs.List.{list_any}
 use Rattle.wit_data.specs.declared.world.World.{World}
 use Rattle.witgraph_dot.specs.Bundles.{whole_frames}
 use Rattle.witgraph_dot.specs.Entries.{own_exports, own_imports}
-use Rattle.witgraph_dot.specs.Listed.{listed_for, has_link, and_links, new_listing}
+use Rattle.witgraph_dot.specs.Listed.{listed_for, and_links, new_listing}
 use Rattle.witgraph_dot.specs.Sets.{is_one_of, intersection, without}
 use Rattle.witgraph_dot.specs.declared.arrow.Arrow.{Arrow}
 use Rattle.witgraph_dot.specs.declared.scene.Scene.{Scene}
@@ -39,8 +39,6 @@ use Rattle.witgraph_dot.specs.Texts.{quoted_text}
 use Rattle.witgraph_dot.specs.Lines.{frame_end}
 use Rattle.witgraph_dot.specs.Choice.{picks}
 use Rattle.witgraph_dot.specs.Pushed.{interface_by_name, is_interface_item, is_world_item}
-use Rattle.witgraph_dot.specs.Shown.{world_has_pick}
-use Rattle.witgraph_dot.specs.Tracks.{full_name, are_versions_by_name}
 use Rattle.witgraph_dot.specs.declared.arrow.ArrowKind.TheVariants as kind
 use Rattle.witgraph_dot.specs.declared.arrow.Target.TheVariants as target
 use Rattle.witgraph_dot.specs.declared.effect.Effect.TheVariants as effect
@@ -63,10 +61,6 @@ world_head w name =
 abbrev pub frame_of : List ℕ → Package → List ℕ
 frame_of shown «package» =
     filter (is_one_of shown) (map (λ (e : List ℕ × ℕ). e.1) «package».interfaces)
-
--- frames without some interfaces
-abbrev pub frames_but : List ℕ → List (List ℕ) → List (List ℕ)
-frames_but others frames = map (λ frame. without frame others) frames
 
 -- an arrow of a kind to each interface
 abbrev pub arrows_to_interfaces : ArrowKind → List ℕ → List Arrow
@@ -111,11 +105,6 @@ importize_effect g world = effect.Importizes world (exports_of world g)
 
 abbrev pub change_effect : Graph → Change → Effect
 change_effect g made = request_effect g (request.Change made)
-
--- after `importize`: what the world exported before
-abbrev pub importized_imports : Option ℕ → List ℕ → List (ℕ × ℕ) → List (ℕ × ℕ)
-importized_imports world exports imports =
-    option_map_or (λ w. replaced w exports imports) world imports
 
 -- after `exportize`: what was listed and isn't exported
 abbrev pub exportized_imports : Option ℕ → Graph → List (ℕ × ℕ) → List (ℕ × ℕ)
@@ -167,11 +156,6 @@ abbrev pub end_in_frame : View → ℕ → List ℕ → Package → List ℕ →
 end_in_frame v p attributes «package» interfaces =
     option_map_or (frame_end p (inner_suffix v.worlds «package» (length interfaces)) attributes)
     (slice_get interfaces (length interfaces - 1)) []
-
--- a label below others, where there are any
-abbrev pub and_label : List ℕ → List ℕ → List ℕ
-and_label labels label =
-    if length labels == 0 then quoted_text label else labels ++ (codes "\\n" ++ quoted_text label)
 
 -- an arrow of this look from world w to the box, which ends there without a head
 abbrev pub arrow_to_box : List ℕ → ℕ → List ℕ → List ℕ
@@ -241,14 +225,6 @@ world_links things found = option_map_or (links_for things) found []
 abbrev pub with_brought : List (ℕ × ℕ) → ℕ × ℕ → List (ℕ × ℕ)
 with_brought links include = and_links links include.0 (listed_for include.1 links)
 
--- one of some worlds includes world w
-abbrev pub is_included_by_any : List (ℕ × ℕ) → List ℕ → ℕ → Bool
-is_included_by_any included worlds w = list_any (λ u. has_link included u w) worlds
-
--- the worlds that no other of them includes
-abbrev pub outermost : List (ℕ × ℕ) → List ℕ → List ℕ
-outermost included worlds = filter (λ w. not (is_included_by_any included worlds w)) worlds
-
 -- an arrow to each of some worlds
 abbrev pub included_arrows : List ℕ → List Arrow
 included_arrows worlds = map (λ w. record { kind = kind.Listed; target = target.World w }) worlds
@@ -282,15 +258,6 @@ view_of scene = record {
 -- one of some picks is of what has this name in package p
 abbrev pub has_pick : List Package → List Pick → ℕ → List ℕ → Bool
 has_pick packages picked p name =
-    option_map_or (λ (owner : Package). is_picked picked owner.name name) (slice_get packages p)
-    false
-
--- a world: it is picked, or nothing is, and it isn't hidden
-abbrev pub is_world_shown : Choice → List Package → World → Bool
-is_world_shown choice packages world =
-    (length choice.shown == 0 || world_has_pick packages choice.shown world)
-    && not (world_has_pick packages choice.hidden world)
-
--- so interfaces i and j
-abbrev pub are_versions_of_one : TrackRule → Graph → ℕ → ℕ → Bool
-are_versions_of_one rule g i j = are_versions_by_name rule (full_name g i) (full_name g j)
+    option_map_or (λ (owner : Package).
+    list_any (λ (pick : Pick). picks pick owner.name name) picked)
+    (slice_get packages p) false

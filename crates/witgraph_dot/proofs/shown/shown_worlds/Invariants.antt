@@ -1,7 +1,6 @@
 use Rattle.std.proofs.Common.{◌≡◌, ◌++◌, drop}
-use Rattle.witgraph_dot.specs.Shown.{indices_from}
+use Rattle.witgraph_dot.specs.Shown.{indices_from, is_world_shown}
 use Rattle.witgraph_dot.proofs.shown.shown_worlds.Given as goal
-use Rattle.witgraph_dot.specs.steps.Parts.{is_world_shown}
 
 -- those so far, and those among the worlds that are left
 abbrev pub invariant-loop-index : goal.invariant-loop-index
