@@ -1,11 +1,13 @@
 //! Documents that are carried out on a graph that stays.
-ghost use Rattle.std.specs.Prelude.{◌≡◌, ◌⊎◌, ◌≤◌, [], ℕ, Err, IfErr, IfOk, IfSome, OnErr, OnOk, Some, string_bytes};
+ghost use Rattle.std.specs.Prelude.{◌≡◌, ◌⊎◌, ◌≤◌, [], ℕ, Err, IfErr, IfOk, IfSome, OnErr, OnOk, Some, string_bytes, codes};
 ghost use Rattle.std.specs.Str.{IsUtf8};
 ghost use Rattle.wit_json.specs.Graph.{compact};
+ghost use Rattle.wit_json.specs.Values.{list_of, member, object};
+ghost use Rattle.wit_json_commands.specs.Answers.{json_of_response};
 ghost use Rattle.wit_json_commands.specs.Documents.{BeginsValid, TellsFault};
 ghost use Rattle.wit_json_commands.specs.Output.{json_of_fault};
 ghost use Rattle.wit_json_commands.specs.steps.Outcomes.{Begins, TellsFaultOf};
-ghost use Rattle.witgraph_calls.specs.Graphs.{Applies, Replies, start_for, json_of_replies, text_of_state};
+ghost use Rattle.witgraph_calls.specs.Graphs.{Applies, Replies, start_for, text_of_state};
 
 use crate::status::{
     CUT_SHORT, INPUT_NOT_UTF8, NO_GRAPH, NO_MEMORY, NOT_UNDERSTOOD, OUTPUT_TOO_SMALL, UNDERSTOOD,
@@ -118,7 +120,8 @@ fn reply(alloc: Global, resolve: &mut Resolve, commands: Items<Order>) -> Option
 /// The replies to commands, without a space. The only error is want of memory.
 fn replies_to_json(alloc: Global, replies: &Items<Response>) -> Result<String, AllocError>
     ensures { IfOk result
-        (λ text. string_bytes text ≡ compact (json_of_replies replies.now)) }
+        (λ text. string_bytes text
+        ≡ compact (object (member (codes "replies") (list_of json_of_response replies.now)))) }
 {
     let mut out = JsonText::new(alloc);
     out.begin_object()?;

@@ -3,8 +3,8 @@ ghost use Rattle.std.specs.Prelude.{◌≡◌, ◌++◌, IfOk, OnOk, option_and_
 ghost use Rattle.std.specs.List.{flat_map};
 ghost use Rattle.std.specs.Option.{option_copied};
 ghost use Rattle.wit_elaboration.specs.Valid.{IsValid};
-ghost use Rattle.wit_json_commands.specs.CoreNames.{core_export, core_exports, core_import, core_imports, core_names_of, entry_functions, functions_at, mangling_and_abi};
-ghost use Rattle.wit_json_commands.specs.steps.Placed.{placed_function, placed_functions};
+ghost use Rattle.wit_json_commands.specs.CoreNames.{core_export, core_exports, core_import, core_imports, core_names_of, entry_functions, mangling_and_abi};
+ghost use Rattle.wit_json_commands.specs.steps.Placed.{functions_at, placed_function, placed_functions};
 ghost use Rattle.wit_json_commands.specs.Tells.{found};
 ghost use Rattle.wit_json_commands.specs.declared.replies.answers.Answer.TheVariants as answer;
 ghost use Rattle.wit_graph_data.specs.Named.{world_named};
