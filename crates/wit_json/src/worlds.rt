@@ -1,8 +1,9 @@
 //! Interfaces and worlds.
 ghost use Rattle.std.specs.Prelude.{◌≡◌, ◌++◌, ◌∷◌, [], OnOk, codes};
+ghost use Rattle.wit_json.specs.Gates.{stability_member};
 ghost use Rattle.json.specs.Token.{key as key_token};
 ghost use Rattle.json.specs.Tree.{json_tokens};
-ghost use Rattle.wit_json.specs.Values.{tagged, object_by};
+ghost use Rattle.wit_json.specs.Values.{tagged, object_by, json_of_number, member, object};
 ghost use Rattle.wit_json.specs.Worlds.{entry_name, json_of_interface, json_of_item, json_of_world};
 
 use crate::names::EntryName;

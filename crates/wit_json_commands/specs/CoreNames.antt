@@ -28,17 +28,13 @@ mangling_and_abi asked.LegacyAsyncStackful = Legacy AsyncStackful
 abbrev pub PlacedFunction : Type 0
 PlacedFunction = Option WorldKey × Function
 
--- the functions of the interface of an id
-abbrev pub functions_at : Graph → WorldKey → ℕ → List PlacedFunction
-functions_at g key i =
-    option_map_or (λ (interface : Interface).
-    map (λ (e : List ℕ × Function). (Some key, e.1)) interface.functions)
-    (slice_get g.interfaces i) []
-
--- the functions of an entry of a world
+-- the functions of an entry of a world: of an interface those that it has
 abbrev pub entry_functions : Graph → WorldKey × WorldItem → List PlacedFunction
 entry_functions g (key, item.Function f) = (None, f) ∷ []
-entry_functions g (key, item.Interface id stability docs span external_id) = functions_at g key id
+entry_functions g (key, item.Interface id stability docs span external_id) =
+    option_map_or (λ (interface : Interface).
+    map (λ (e : List ℕ × Function). (Some key, e.1)) interface.functions)
+    (slice_get g.interfaces id) []
 entry_functions g (key, item.Type_ id span) = []
 
 -- the module and the field of a function that is imported, as `import_names` has them

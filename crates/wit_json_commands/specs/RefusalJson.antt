@@ -39,6 +39,9 @@ error_fields (kind.Semantic span message cause) = member (codes "message") (json
 error_fields kind.OffsetOverflow = []
 error_fields kind.OutOfMemory = []
 
+abbrev pub json_of_fields : ResolveErrorKind → Json
+json_of_fields error = object (error_fields error)
+
 -- a file by its path, a line and a column, both from 1
 abbrev pub json_of_file_place : FilePlace → Json
 json_of_file_place place =
@@ -57,7 +60,7 @@ json_of_way_step step =
 abbrev pub json_of_refused : Refusal → Json
 json_of_refused refusal =
     object (member (codes "error") (json_of_refusal refusal.error)
-    ++ member (codes "fields") (object (error_fields refusal.error))
+    ++ member (codes "fields") (json_of_fields refusal.error)
     ++ member (codes "places") (list_of json_of_file_place refusal.places)
     ++ member (codes "way") (list_of json_of_way_step refusal.way)
     ++ member (codes "rendered") (json_of_text refusal.rendered))

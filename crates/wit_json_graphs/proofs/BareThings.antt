@@ -141,7 +141,7 @@ reads_bare_entries es fits = ap read_entries (entries_are es) ∙ reads_world_en
 abbrev pub bare_world : World → World
 bare_world world = record world { imports = bare_entries world.imports; exports = bare_entries world.exports; includes = []; span = None }
 
-reads_no_includes : (j : Json) → get (codes "includes") j ≡ None → read_or [] (read_list read_include) (codes "includes") j ≡ Ok []
+reads_no_includes : (j : Json) → get (codes "includes") j ≡ None → read_or (read_list read_include) [] (codes "includes") j ≡ Ok []
 unfolding read_or
 reads_no_includes j there =
     followed (read_optional (read_list read_include) (codes "includes") j) _ None (Ok []) (reads_optional (read_list read_include) (λ (is : List WorldInclude). json_of_text []) (codes "includes") j None there tt) refl

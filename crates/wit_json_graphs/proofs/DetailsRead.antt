@@ -26,7 +26,7 @@ use Rattle.wit_json.specs.Details.{external_id_member, function_details, interfa
 use Rattle.wit_json.specs.Values as written
 use Rattle.wit_json.specs.Values.{Member, json_of_text, members_of, object, object_under_names, optional, object_by}
 use Rattle.wit_json.specs.Worlds.{entry_name}
-use Rattle.wit_json_graphs.specs.Details.{case_with, entries_with, entry_with, enum_case_with, field_with, flag_with, function_with_details, interface_with, item_with, kind_with, list_with, param_with, span_alone, table_with, things_with, type_with_details, world_with}
+use Rattle.wit_json_graphs.specs.Details.{entries_with, entry_with, function_with_details, interface_with, item_with, kind_with, list_with, span_alone, table_with, things_with, type_with_details, world_with, with_span}
 use Rattle.wit_json_graphs.specs.Writable.{AreWritableEntries, IsWritableCase, IsWritableField, IsWritableFunction, IsWritableInterface, IsWritableItem, IsWritableKind, IsWritableParam, IsWritableSpan, IsWritableTypeDef, IsWritableWorld}
 use Rattle.wit_json_reading.specs.Gates.{read_place, read_span}
 use Rattle.wit_json_reading.specs.Reading.{Reading, ◌>>=◌, only, under, instead_of}
@@ -65,20 +65,31 @@ module _ {K A : Type 0} (name : K → List ℕ) (f : A → Json → Reading A) (
 
 -- ---- types
 
+abbrev field_with : Field → Json → Reading Field
+field_with = with_span (λ (f : Field) span. record f { span = span })
+
+abbrev flag_with : Flag → Json → Reading Flag
+flag_with = with_span (λ (f : Flag) span. record f { span = span })
+
+abbrev case_with : Case → Json → Reading Case
+case_with = with_span (λ (c : Case) span. record c { span = span })
+
+abbrev enum_case_with : EnumCase → Json → Reading EnumCase
+enum_case_with = with_span (λ (c : EnumCase) span. record c { span = span })
+
+abbrev param_with : Param → Json → Reading Param
+param_with = with_span (λ (p : Param) span. record p { span = span })
+
 field_complete : (f : Field) → IsWritableField f → field_with (bare_field f) (json_of_span f.span) ≡ Ok f
-unfolding field_with
 field_complete f fits = followed (read_place (json_of_span f.span)) _ f.span (Ok f) (reads_span f.span fits.1) refl
 
 flag_complete : (f : Flag) → IsWritableSpan f.span → flag_with (bare_flag f) (json_of_span f.span) ≡ Ok f
-unfolding flag_with
 flag_complete f fits = followed (read_place (json_of_span f.span)) _ f.span (Ok f) (reads_span f.span fits) refl
 
 case_complete : (c : Case) → IsWritableCase c → case_with (bare_case c) (json_of_span c.span) ≡ Ok c
-unfolding case_with
 case_complete c fits = followed (read_place (json_of_span c.span)) _ c.span (Ok c) (reads_span c.span fits.1) refl
 
 enum_case_complete : (c : EnumCase) → IsWritableSpan c.span → enum_case_with (bare_enum_case c) (json_of_span c.span) ≡ Ok c
-unfolding enum_case_with
 enum_case_complete c fits = followed (read_place (json_of_span c.span)) _ c.span (Ok c) (reads_span c.span fits) refl
 
 -- the parts of a type that has some
@@ -178,7 +189,6 @@ type_complete def fits =
 -- ---- functions and interfaces
 
 param_complete : (p : Param) → IsWritableParam p → param_with (bare_param p) (json_of_span p.span) ≡ Ok p
-unfolding param_with
 param_complete p fits = followed (read_place (json_of_span p.span)) _ p.span (Ok p) (reads_span p.span fits.1) refl
 
 pub function_complete : (f : Function) → IsWritableFunction f → function_with_details (bare_function f) (function_details f) ≡ Ok f

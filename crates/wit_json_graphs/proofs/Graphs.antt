@@ -166,24 +166,24 @@ reads_rule WithPrereleases = refl
 -- ---- what stands beside a graph
 
 details_there : (g : Graph) (j : Json) → IsWritableGraph g → get (codes "details") j ≡ Some (graph_details g)
-    → read_or (bare_graph g) (graph_with (bare_graph g)) (codes "details") j ≡ Ok g
+    → read_or (graph_with (bare_graph g)) (bare_graph g) (codes "details") j ≡ Ok g
 unfolding read_or
 details_there g j fits there =
     followed (read_optional (graph_with (bare_graph g)) (codes "details") j) _ (Some g) (Ok g)
     (reads_optional (graph_with (bare_graph g)) graph_details (codes "details") j (Some g) there (graph_complete g fits)) refl
 
-features_there : (features : Features) (j : Json) → AreApart features.names → get (codes "features") j ≡ Some (json_of_features features) → read_or (record { names = []; all = false }) read_features (codes "features") j ≡ Ok features
+features_there : (features : Features) (j : Json) → AreApart features.names → get (codes "features") j ≡ Some (json_of_features features) → read_or read_features (record { names = []; all = false }) (codes "features") j ≡ Ok features
 unfolding read_or
 features_there features j apart there =
     followed (read_optional read_features (codes "features") j) _ (Some features) (Ok features)
     (reads_optional read_features json_of_features (codes "features") j (Some features) there (reads_features features apart)) refl
 
-rule_there : (rule : TrackRule) (j : Json) → get (codes "track-rule") j ≡ Some (json_of_rule rule) → read_or Published read_rule (codes "track-rule") j ≡ Ok rule
+rule_there : (rule : TrackRule) (j : Json) → get (codes "track-rule") j ≡ Some (json_of_rule rule) → read_or read_rule Published (codes "track-rule") j ≡ Ok rule
 unfolding read_or
 rule_there rule j there =
     followed (read_optional read_rule (codes "track-rule") j) _ (Some rule) (Ok rule) (reads_optional read_rule json_of_rule (codes "track-rule") j (Some rule) there (reads_rule rule)) refl
 
-sources_there : (sources : Sources) (j : Json) → AreWritableSources sources → get (codes "sources") j ≡ Some (json_of_sources sources) → read_or (record { files = []; end = 0 }) read_sources (codes "sources") j ≡ Ok sources
+sources_there : (sources : Sources) (j : Json) → AreWritableSources sources → get (codes "sources") j ≡ Some (json_of_sources sources) → read_or read_sources (record { files = []; end = 0 }) (codes "sources") j ≡ Ok sources
 unfolding read_or
 sources_there sources j fits there =
     followed (read_optional read_sources (codes "sources") j) _ (Some sources) (Ok sources)
@@ -195,8 +195,8 @@ parts_by graph features rule sources = record { graph = graph; features = featur
 -- what is read behind the graph, and behind the names
 abbrev behind_graph : Json → Graph → Reading ResolveParts
 behind_graph j graph =
-    read_or graph (graph_with graph) (codes "details") j >>= λ whole. read_or (record { names = []; all = false }) read_features (codes "features") j
-    >>= λ features. read_or Published read_rule (codes "track-rule") j >>= λ rule. read_or (record { files = []; end = 0 }) read_sources (codes "sources") j
+    read_or (graph_with graph) graph (codes "details") j >>= λ whole. read_or read_features (record { names = []; all = false }) (codes "features") j
+    >>= λ features. read_or read_rule Published (codes "track-rule") j >>= λ rule. read_or read_sources (record { files = []; end = 0 }) (codes "sources") j
     >>= λ sources. Ok (parts_by whole features rule sources)
 
 abbrev behind_all : Json → Reading ResolveParts

@@ -43,7 +43,7 @@ use Rattle.wit_data.specs.declared.world.WorldKey.TheVariants as key
 
 -- ---- the package that something belongs to
 
-reads_no_home : (j : Json) → get (codes "package") j ≡ None → read_or None (nullable read_number) (codes "package") j ≡ Ok None
+reads_no_home : (j : Json) → get (codes "package") j ≡ None → read_or (nullable read_number) None (codes "package") j ≡ Ok None
 unfolding read_or
 reads_no_home j there =
     followed (read_optional (nullable read_number) (codes "package") j) _ None (Ok None) (reads_optional (nullable read_number) (null_or json_of_number) (codes "package") j None there tt) refl
@@ -52,7 +52,7 @@ reads_home_or_null : (home : Option ℕ) → IfSome home IsWritableId → nullab
 reads_home_or_null None fits = refl
 reads_home_or_null (Some id) fits = followed (read_number (json_of_number id)) _ id (Ok (Some id)) (reads_number id fits) refl
 
-pub reads_home : (home : Option ℕ) (j : Json) → IfSome home IsWritableId → get (codes "package") j ≡ Some (null_or json_of_number home) → read_or None (nullable read_number) (codes "package") j ≡ Ok home
+pub reads_home : (home : Option ℕ) (j : Json) → IfSome home IsWritableId → get (codes "package") j ≡ Some (null_or json_of_number home) → read_or (nullable read_number) None (codes "package") j ≡ Ok home
 unfolding read_or
 reads_home home j fits there =
     followed (read_optional (nullable read_number) (codes "package") j) _ (Some home) (Ok home)
@@ -196,7 +196,7 @@ reads_include i fits =
     (reads_span_member i.span j fits.span (get_slot (codes "span") ss))
 
 reads_includes : (includes : List WorldInclude) (j : Json) → Each IsWritableInclude includes → get (codes "includes") j ≡ Some (written.list_of json_of_include includes)
-    → read_or [] (read_list read_include) (codes "includes") j ≡ Ok includes
+    → read_or (read_list read_include) [] (codes "includes") j ≡ Ok includes
 unfolding read_or
 reads_includes includes j fits there =
     followed (read_optional (read_list read_include) (codes "includes") j) _ (Some includes) (Ok includes)

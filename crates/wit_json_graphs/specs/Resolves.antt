@@ -16,8 +16,8 @@ read_resolve j = do
   _ ← only (codes "graph" ∷ codes "details" ∷ codes "features" ∷ codes "track-rule"
       ∷ codes "sources" ∷ []) j
   graph ← read_required read_graph (codes "graph") j
-  whole ← read_or graph (graph_with graph) (codes "details") j
-  features ← read_or (record { names = []; all = false }) read_features (codes "features") j
-  rule ← read_or Published read_rule (codes "track-rule") j
-  sources ← read_or (record { files = []; end = 0 }) read_sources (codes "sources") j
+  whole ← read_or (graph_with graph) graph (codes "details") j
+  features ← read_or read_features (record { names = []; all = false }) (codes "features") j
+  rule ← read_or read_rule Published (codes "track-rule") j
+  sources ← read_or read_sources (record { files = []; end = 0 }) (codes "sources") j
   Ok (record { graph = whole; features = features; source_map = sources; track_rule = rule })

@@ -28,7 +28,7 @@ pub struct ResolveParts {
 #[tactic(auto, unfolding(wit_json_reading::specs::Reading::read_or))]
 fn with_details(alloc: Global, value: &Value<'_>, mut graph: Graph) -> Result<Graph, ReadError>
     ensures { Reads result
-        (read_or graph (graph_with graph) (codes "details") (value_view value.now)) }
+        (read_or (graph_with graph) graph (codes "details") (value_view value.now)) }
 {
     if let Some(details) = value.get("details") {
         member_details(alloc, details, "details", &mut graph)?;
@@ -40,7 +40,7 @@ fn with_details(alloc: Global, value: &Value<'_>, mut graph: Graph) -> Result<Gr
 #[tactic(auto, unfolding(wit_json_reading::specs::Reading::read_or))]
 fn features(alloc: Global, value: &Value<'_>) -> Result<Features, ReadError>
     ensures { Reads result
-        (read_or (record { names = []; all = false }) read_features (codes "features")
+        (read_or read_features (record { names = []; all = false }) (codes "features")
         (value_view value.now)) }
 {
     match optional(alloc, value, "features")? {
@@ -53,7 +53,7 @@ fn features(alloc: Global, value: &Value<'_>) -> Result<Features, ReadError>
 #[tactic(auto, unfolding(wit_json_reading::specs::Reading::read_or))]
 fn sources(alloc: Global, value: &Value<'_>) -> Result<SourceMap, ReadError>
     ensures { Reads result
-        (read_or (record { files = []; end = 0 }) read_sources (codes "sources")
+        (read_or read_sources (record { files = []; end = 0 }) (codes "sources")
         (value_view value.now)) }
 {
     match optional(alloc, value, "sources")? {
@@ -66,7 +66,7 @@ fn sources(alloc: Global, value: &Value<'_>) -> Result<SourceMap, ReadError>
 #[tactic(auto, unfolding(wit_json_reading::specs::Reading::read_or))]
 fn rule(alloc: Global, value: &Value<'_>) -> Result<TrackRule, ReadError>
     ensures { Reads result
-        (read_or Published read_rule (codes "track-rule") (value_view value.now)) }
+        (read_or read_rule Published (codes "track-rule") (value_view value.now)) }
 {
     match optional(alloc, value, "track-rule")? {
         Some(rule) => Ok(rule),

@@ -23,7 +23,7 @@ read_place j = read_range j
 
 -- the span of an item, unknown where it is left out
 unfoldable pub read_span : Json → Reading (Option (ℕ × ℕ))
-read_span j = read_or None read_place (codes "span") j
+read_span j = read_or read_place None (codes "span") j
 
 -- `{"contents": text}`
 unfoldable pub read_contents : Json → Reading Docs
@@ -32,7 +32,7 @@ read_contents j =
 
 -- the docs of an item, none where they are left out
 unfoldable pub read_docs : Json → Reading Docs
-read_docs j = read_or (record { contents = None }) read_contents (codes "docs") j
+read_docs j = read_or read_contents (record { contents = None }) (codes "docs") j
 
 -- `{"since": version}`, and `"deprecated": version` where it is so
 unfoldable pub read_stable : Json → Reading Stability
@@ -63,4 +63,4 @@ read_any_gate j = read_variant read_gate_by expected.Gate j
 
 -- the gate of an item
 unfoldable pub read_stability : Json → Reading Stability
-read_stability j = read_or Unknown read_any_gate (codes "stability") j
+read_stability j = read_or read_any_gate Unknown (codes "stability") j

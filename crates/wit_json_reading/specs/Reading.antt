@@ -61,8 +61,8 @@ read_optional f name j =
     (Ok None)
 
 -- the member of a name, or this where it is left out
-unfoldable pub read_or : {A : Type 0} → A → (Json → Reading A) → List ℕ → Json → Reading A
-read_or default f name j = read_optional f name j >>= λ it. Ok (unwrap_or it default)
+unfoldable pub read_or : {A : Type 0} → (Json → Reading A) → A → List ℕ → Json → Reading A
+read_or f default name j = read_optional f name j >>= λ it. Ok (unwrap_or it default)
 
 -- the member of a name, which has to be there
 abbrev pub read_required : {A : Type 0} → (Json → Reading A) → List ℕ → Json → Reading A

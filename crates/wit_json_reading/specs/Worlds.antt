@@ -34,7 +34,7 @@ read_interface j = do
   functions ← read_required (read_named read_function) (codes "functions") j
   docs ← read_docs j
   stability ← read_stability j
-  home ← read_or None (nullable read_number) (codes "package") j
+  home ← read_or (nullable read_number) None (codes "package") j
   span ← read_span j
   Ok (record {
     name = name;
@@ -147,10 +147,10 @@ read_world j = do
   name ← read_required read_text (codes "name") j
   imports ← read_required read_entries (codes "imports") j
   exports ← read_required read_entries (codes "exports") j
-  includes ← read_or [] (read_list read_include) (codes "includes") j
+  includes ← read_or (read_list read_include) [] (codes "includes") j
   docs ← read_docs j
   stability ← read_stability j
-  home ← read_or None (nullable read_number) (codes "package") j
+  home ← read_or (nullable read_number) None (codes "package") j
   span ← read_span j
   Ok (record {
     name = name;

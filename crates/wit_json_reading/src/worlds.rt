@@ -25,7 +25,7 @@ use wit_values::{Items, NameSet, Table, Text};
 #[tactic(auto, unfolding(crate::specs::Reading::read_or))]
 fn home(alloc: Global, value: &Value<'_>) -> Result<Option<PackageId>, ReadError>
     ensures { Reads result
-        (read_or None (nullable read_number) (codes "package") (value_view value.now)) }
+        (read_or (nullable read_number) None (codes "package") (value_view value.now)) }
 {
     match optional::<Option<PackageId>>(alloc, value, "package")? {
         Some(home) => Ok(home),
@@ -276,7 +276,7 @@ impl ReadJson for WorldInclude {
 #[tactic(auto, unfolding(crate::specs::Reading::read_or))]
 fn includes(alloc: Global, value: &Value<'_>) -> Result<Items<WorldInclude>, ReadError>
     ensures { Reads result
-        (read_or [] (read_list read_include) (codes "includes") (value_view value.now)) }
+        (read_or (read_list read_include) [] (codes "includes") (value_view value.now)) }
 {
     match optional(alloc, value, "includes")? {
         Some(includes) => Ok(includes),

@@ -1,6 +1,5 @@
 -- Refusals as data.
 use Rattle.std.specs.Prelude.{◌≡◌, ◌≢◌, ℕ, List, [], ◌∷◌, ◌++◌, Option, Some, None, codes, filter_map}
-use Rattle.wit_json.specs.Values.{object}
 use Rattle.wit_data.specs.declared.stability.Stability.TheVariants.{Stable, Unknown, Unstable}
 use Rattle.wit_graph_data.specs.declared.cause.Cause.TheVariants as cause
 use Rattle.wit_graph_data.specs.declared.error_kind.ResolveErrorKind.{ResolveErrorKind}
@@ -8,7 +7,7 @@ use Rattle.wit_graph_data.specs.declared.error_kind.ResolveErrorKind.TheVariants
 use Rattle.wit_names.specs.declared.package_name.PackageName.{PackageName}
 use Rattle.wit_json.specs.Graph.{compact}
 use Rattle.wit_json_commands.specs.FilePlaces.{file_place}
-use Rattle.wit_json_commands.specs.RefusalJson.{error_fields, json_of_file_place, json_of_refused, json_of_way_step}
+use Rattle.wit_json_commands.specs.RefusalJson.{json_of_fields, json_of_file_place, json_of_refused, json_of_way_step}
 use Rattle.wit_json_commands.specs.Refusals.{error_spans, way_step}
 use Rattle.wit_json_commands.specs.declared.replies.answers.Refusal.{Refusal}
 use Rattle.wit_json_commands.specs.declared.replies.file_places.FilePlace.{FilePlace}
@@ -20,7 +19,7 @@ abbrev pub other_name : PackageName
 other_name = record a_name { version = Some (1, 0, 0, [], []) }
 
 abbrev pub fields_text : ResolveErrorKind → List ℕ
-fields_text error = compact (object (error_fields error))
+fields_text error = compact (json_of_fields error)
 
 -- the second line of the first file, and the second character of the other one
 abbrev pub second_line : FilePlace

@@ -4,7 +4,7 @@ ghost use Rattle.wit_elaboration.specs.Valid.{IsValid};
 ghost use Rattle.wit_graph_data.specs.Named.{package_named};
 ghost use Rattle.wit_graph_data.specs.Queries.{interface_direct_deps, package_direct_deps, topological_packages};
 ghost use Rattle.wit_json_commands.specs.Tells.{found, interface_id_named};
-ghost use Rattle.wit_json_commands.specs.declared.replies.answers.Answer.TheVariants as answer;
+ghost use Rattle.wit_json_commands.specs.declared.replies.answers.Answer.TheVariants as answers;
 
 use super::names::interface_named;
 use crate::replies::Answer;
@@ -23,7 +23,7 @@ pub fn package_dependencies(
     requires { IsValid graph.now }
     ensures { IfOk result (λ it.
         it
-        ≡ found (λ p. answer.Packages (package_direct_deps graph.now.types graph.now.interfaces
+        ≡ found (λ p. answers.Packages (package_direct_deps graph.now.types graph.now.interfaces
         graph.now.worlds graph.now.packages p)) (package_named graph.now «package».now)) }
 {
     match graph.package_names.get(package) {
@@ -58,7 +58,7 @@ pub fn interface_dependencies(
     ensures { IfOk result (λ it.
         it
         ≡ found
-        (λ i. answer.Interfaces (interface_direct_deps graph.now.types graph.now.interfaces i))
+        (λ i. answers.Interfaces (interface_direct_deps graph.now.types graph.now.interfaces i))
         (interface_id_named graph.now «package».now interface.now)) }
 {
     match interface_named(graph, package, interface.as_str()) {
@@ -89,7 +89,7 @@ pub fn package_order(alloc: Global, graph: &Graph) -> ResolveResult<Answer>
     requires { IsValid graph.now }
     ensures { IfOk result (λ it.
         it
-        ≡ answer.Packages (topological_packages graph.now.types graph.now.interfaces
+        ≡ answers.Packages (topological_packages graph.now.types graph.now.interfaces
         graph.now.worlds graph.now.packages)) }
 {
     let ids = topological_packages(alloc, graph)?;

@@ -2,9 +2,10 @@
 ghost use Rattle.std.specs.Prelude.{◌≡◌, IfOk};
 ghost use Rattle.std.specs.Option.{option_copied};
 ghost use Rattle.wit_elaboration.specs.Valid.{IsValid};
+ghost use Rattle.wit_graph_data.specs.Queries.{futures_and_streams as function_futures};
 ghost use Rattle.wit_json_commands.specs.Tells.{entry_function, found, function_at, function_under};
 ghost use Rattle.wit_json_commands.specs.declared.commands.questions.FunctionSite.TheVariants as site;
-ghost use Rattle.wit_json_commands.specs.declared.replies.answers.Answer.TheVariants as answer;
+ghost use Rattle.wit_json_commands.specs.declared.replies.answers.Answer.TheVariants as answers;
 
 use super::names::{interface_named, world_named};
 use crate::commands::{FunctionPlace, FunctionSite};
@@ -23,7 +24,7 @@ pub fn futures_and_streams(
     requires { IsValid graph.now }
     ensures { IfOk result (λ it.
         it
-        ≡ found (λ f. answer.Types (function_futures graph.now.types f))
+        ≡ found (λ f. answers.Types (function_futures graph.now.types f))
         (function_at graph.now place.now.site place.now.«package» place.now.name
         place.now.function)) }
 {

@@ -1,9 +1,9 @@
 //! The fields of errors as members of an object.
 ghost use Rattle.std.specs.Prelude.{◌≡◌, ◌++◌, OnOk, codes};
 ghost use Rattle.json.specs.Tree.{json_tokens};
-ghost use Rattle.wit_json.specs.Values.{member, object};
+ghost use Rattle.wit_json.specs.Values.{member};
 ghost use Rattle.wit_json.specs.steps.Members.{Adds};
-ghost use Rattle.wit_json_commands.specs.RefusalJson.{error_fields};
+ghost use Rattle.wit_json_commands.specs.RefusalJson.{error_fields, json_of_fields};
 
 use std::alloc::AllocError;
 use wit_graph_data::ResolveErrorKind;
@@ -12,7 +12,7 @@ use wit_json::{JsonText, WriteJson};
 /// Writes the member that has the fields of an error under their names.
 pub fn write_fields(out: &mut JsonText, kind: &ResolveErrorKind) -> Result<(), AllocError>
     ensures { OnOk result
-        (Adds out.old out.new (member (codes "fields") (object (error_fields kind.now)))) }
+        (Adds out.old out.new (member (codes "fields") (json_of_fields kind.now))) }
 {
     out.key("fields")?;
     write_object(out, kind)
@@ -20,7 +20,7 @@ pub fn write_fields(out: &mut JsonText, kind: &ResolveErrorKind) -> Result<(), A
 
 /// Writes the object of the fields of an error.
 fn write_object(out: &mut JsonText, kind: &ResolveErrorKind) -> Result<(), AllocError>
-    ensures { OnOk result (out.new ≡ out.old ++ json_tokens (object (error_fields kind.now))) }
+    ensures { OnOk result (out.new ≡ out.old ++ json_tokens (json_of_fields kind.now)) }
 {
     out.begin_object()?;
     write_members(out, kind)?;

@@ -12,12 +12,12 @@ use Rattle.wit_json_reading.specs.Packages.{read_package_name, read_package}
 use Rattle.wit_json_reading.specs.Types.{read_case, read_enum_case, read_field, read_flag, read_kind_by, read_kind, read_owner, read_result, read_type_def, read_type}
 use Rattle.wit_json_reading.specs.Values.{decimal_of, read_small_number, read_version}
 use Rattle.wit_json_reading.specs.Worlds.{read_include_name, read_include, read_interface_entry, read_interface, read_placed_type, read_world}
-use Rattle.wit_json_graphs.specs.Details.{case_with, entry_with, enum_case_with, field_with, flag_with, function_with_details, graph_with, interface_with, item_with, kind_with, param_with, span_alone, type_with_details, world_with}
+use Rattle.wit_json_graphs.specs.Details.{entry_with, function_with_details, graph_with, interface_with, item_with, kind_with, span_alone, type_with_details, world_with}
 use Rattle.wit_json_graphs.specs.Resolves.{read_resolve}
 use Rattle.examples_json.proofs.values.examples_of_read_resolves.Goals as goal
 
 pub returns : goal.returns
-unfolding json_on_literals semver_on_literals digits read_features read_names read_rule read_function_kind read_function read_param read_contents read_docs read_any_gate read_place read_range read_span read_stability read_stable read_unstable read_graph read_graph_package read_group read_source read_package_name read_package read_case read_enum_case read_field read_flag read_kind_by read_kind read_owner read_result read_type_def read_type decimal_of read_small_number read_version read_include_name read_include read_interface_entry read_interface read_placed_type read_world case_with entry_with enum_case_with field_with flag_with function_with_details graph_with interface_with item_with kind_with param_with span_alone type_with_details world_with read_resolve read_or
+unfolding json_on_literals semver_on_literals digits read_features read_names read_rule read_function_kind read_function read_param read_contents read_docs read_any_gate read_place read_range read_span read_stability read_stable read_unstable read_graph read_graph_package read_group read_source read_package_name read_package read_case read_enum_case read_field read_flag read_kind_by read_kind read_owner read_result read_type_def read_type decimal_of read_small_number read_version read_include_name read_include read_interface_entry read_interface read_placed_type read_world entry_with function_with_details graph_with interface_with item_with kind_with span_alone type_with_details world_with read_resolve read_or
 returns c = record {
   alone = refl;
   whole = refl;
