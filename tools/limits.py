@@ -30,8 +30,8 @@ LIMITS = {
     "wide definitions that are public": 5,
     "functions that stand twice": 2,
     "definitions that are believed, not at the top": 18,
-    "definitions at the top, under no public contract": 11,
-    "names of several definitions at the top": 27,
+    "definitions at the top, under no public contract": 8,
+    "names of several definitions at the top": 17,
 }
 
 

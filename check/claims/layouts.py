@@ -20,9 +20,9 @@ STORED = "crates/witgraph_json/stdin", "crates/witgraph_json/stdout"
 # The definitions that read what a row calls by a word in capitals.
 THINGS = {"PACKAGE": "read_package", "WORLD": "read_world", "INTERFACE": "read_interface"}
 # The definitions of which each line has the members of an object.
-LINES = {"error_fields", "missing_fields"}
+LINES = {"error_fields"}
 # The members that some definitions always write for others.
-WRITTEN_BY = {"interface_member": ["interface"], "fault_members": ["clause", "place", "text"]}
+WRITTEN_BY = {"interface_member": ["interface"]}
 # The definitions, beside those of commands, of which the document has each word.
 SAID_WHOLE = "json_of_answer", "json_of_function_kind", "read_package", "read_resolve", "json_of_remap"
 # Members that are read of a graph and stand in no package.

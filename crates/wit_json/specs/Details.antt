@@ -1,9 +1,8 @@
 -- What the layout leaves out of a graph, under keys of its own: where things stand in the sources, their external ids, and
 -- the docs of entries of worlds. Each list has what is said of a thing at the index that is its id.
-use Rattle.std.specs.Prelude.{ℕ, List, [], ◌++◌, Option, codes, map}
+use Rattle.std.specs.Prelude.{ℕ, List, [], ◌++◌, Option, codes}
 use Rattle.std.specs.Option.{option_map}
 use Rattle.json.specs.Json.{Json}
-use Rattle.json.specs.Json as json
 use Rattle.wit_data.specs.declared.function.Function.{Function}
 use Rattle.wit_data.specs.declared.function.Param.{Param}
 use Rattle.wit_data.specs.declared.interface.Interface.{Interface}
@@ -17,11 +16,11 @@ use Rattle.wit_data.specs.declared.types.TypeDefKind.TheVariants as kind
 use Rattle.wit_data.specs.declared.world.World.{World}
 use Rattle.wit_data.specs.declared.world.WorldItem.{WorldItem}
 use Rattle.wit_data.specs.declared.world.WorldItem.TheVariants as item
-use Rattle.wit_data.specs.declared.world.WorldKey.{WorldKey}
 use Rattle.wit_graph_data.specs.declared.graph.Graph.{Graph}
 use Rattle.wit_json.specs.Gates.{docs_member}
-use Rattle.wit_json.specs.Values.{Member, json_of_number, json_of_text, list_of, member, null_or, object, object_under_names, optional, pair}
+use Rattle.wit_json.specs.Values.{Member, json_of_number, json_of_text, list_of, member, null_or, object, object_under_names, optional, pair, object_by}
 use Rattle.wit_json.specs.Worlds.{entry_name}
+use Rattle.json.specs.Json as json
 
 -- `[start, end]`, the end not included
 abbrev pub json_of_range : ℕ × ℕ → Json
@@ -70,14 +69,11 @@ item_details (item.Interface id stability docs span external_id) =
 item_details (item.Function f) = function_details f
 item_details (item.Type_ id span) = object (span_member span)
 
-abbrev pub entries_details : List (WorldKey × WorldItem) → Json
-entries_details entries =
-    object (map (λ (e : WorldKey × WorldItem). (entry_name e.0, item_details e.1)) entries)
-
 abbrev pub world_details : World → Json
 world_details world =
-    object (span_member world.span ++ member (codes "imports") (entries_details world.imports)
-    ++ member (codes "exports") (entries_details world.exports))
+    object (span_member world.span
+    ++ member (codes "imports") (object_by entry_name item_details world.imports)
+    ++ member (codes "exports") (object_by entry_name item_details world.exports))
 
 abbrev pub graph_details : Graph → Json
 graph_details graph =

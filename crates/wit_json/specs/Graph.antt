@@ -11,7 +11,7 @@ use Rattle.wit_names.specs.PackageName.{package_name_text}
 use Rattle.wit_names.specs.declared.package_name.PackageName.{PackageName}
 use Rattle.wit_json.specs.Gates.{docs_member}
 use Rattle.wit_json.specs.Types.{json_of_type_def}
-use Rattle.wit_json.specs.Values.{Member, json_of_number, json_of_text, list_of, member, object, object_under_names}
+use Rattle.wit_json.specs.Values.{json_of_number, json_of_text, list_of, member, object, object_under_names}
 use Rattle.wit_json.specs.Worlds.{json_of_interface, json_of_world}
 
 abbrev pub json_of_package_name : PackageName → Json
@@ -24,15 +24,12 @@ json_of_package p =
     ++ member (codes "worlds") (object_under_names json_of_number p.worlds))
 
 -- each thing stands in its list at the index that is its id
-abbrev pub graph_members : Graph → List Member
-graph_members graph =
-    member (codes "worlds") (list_of json_of_world graph.worlds)
+abbrev pub json_of_graph : Graph → Json
+json_of_graph graph =
+    object (member (codes "worlds") (list_of json_of_world graph.worlds)
     ++ member (codes "interfaces") (list_of json_of_interface graph.interfaces)
     ++ member (codes "types") (list_of json_of_type_def graph.types)
-    ++ member (codes "packages") (list_of json_of_package graph.packages)
-
-abbrev pub json_of_graph : Graph → Json
-json_of_graph graph = object (graph_members graph)
+    ++ member (codes "packages") (list_of json_of_package graph.packages))
 
 -- the text of a value without a space
 abbrev pub compact : Json → List ℕ

@@ -1,5 +1,5 @@
 -- Refusals as JSON.
-use Rattle.std.specs.Prelude.{ℕ, List, ◌++◌, Option, codes}
+use Rattle.std.specs.Prelude.{ℕ, List, ◌++◌, codes}
 use Rattle.json.specs.Json.{Json}
 use Rattle.wit_graph_data.specs.Error.{error_number, error_span}
 use Rattle.wit_graph_data.specs.ErrorText.{kind_text}
@@ -46,15 +46,9 @@ kind_word (kind.Semantic span message cause) = cause_word cause
 kind_word kind.OffsetOverflow = codes "offset-overflow"
 kind_word kind.OutOfMemory = codes "out-of-memory"
 
--- a number, a word, a text, and a span where it is known
-abbrev pub refusal_object : ℕ → List ℕ → List ℕ → Option (ℕ × ℕ) → Json
-refusal_object number word text span =
-    object (member (codes "number") (json_of_number number)
-    ++ member (codes "cause") (json_of_text word)
-    ++ member (codes "text") (json_of_text text) ++ span_member span)
-
--- its number, its word, its text, and where the fault is
+-- its number, its word, its text, and where the fault is, where that is known
 abbrev pub json_of_refusal : ResolveErrorKind → Json
 json_of_refusal refusal =
-    refusal_object (error_number refusal) (kind_word refusal) (kind_text refusal)
-    (error_span refusal)
+    object (member (codes "number") (json_of_number (error_number refusal))
+    ++ member (codes "cause") (json_of_text (kind_word refusal))
+    ++ member (codes "text") (json_of_text (kind_text refusal)) ++ span_member (error_span refusal))

@@ -1,12 +1,9 @@
 -- Unresolved packages as JSON: their things by the words of the layout, with spans and external ids as members of their own
 -- and without a package, and each other list of a package as a member. Ids are indices in the lists of the package.
-use Rattle.std.specs.Prelude.{ℕ, List, [], ◌∷◌, ◌++◌, Option, Some, None, codes, map}
+use Rattle.std.specs.Prelude.{ℕ, List, ◌++◌, Option, Some, None, codes, [], ◌∷◌}
 use Rattle.std.specs.Option.{option_map}
 use Rattle.json.specs.Json.{Json}
-use Rattle.json.specs.Json as json
 use Rattle.wit_names.specs.PackageName.{package_name_text}
-use Rattle.wit_names.specs.declared.package_name.PackageName.{PackageName}
-use Rattle.wit_data.specs.Foreign.{ForeignItem}
 use Rattle.wit_data.specs.declared.function.Function.{Function}
 use Rattle.wit_data.specs.declared.function.Param.{Param}
 use Rattle.wit_data.specs.declared.interface.Interface.{Interface}
@@ -27,14 +24,14 @@ use Rattle.wit_data.specs.declared.world.World.{World}
 use Rattle.wit_data.specs.declared.world.WorldInclude.{WorldInclude}
 use Rattle.wit_data.specs.declared.world.WorldItem.{WorldItem}
 use Rattle.wit_data.specs.declared.world.WorldItem.TheVariants as item
-use Rattle.wit_data.specs.declared.world.WorldKey.{WorldKey}
 use Rattle.wit_json.specs.Details.{external_id_member, json_of_range, json_of_span, span_member}
 use Rattle.wit_json.specs.Functions.{json_of_function_kind}
 use Rattle.wit_json.specs.Gates.{docs_member, json_of_stability, stability_member}
 use Rattle.wit_json.specs.Graph.{json_of_package_name}
 use Rattle.wit_json.specs.Types.{json_of_kind, json_of_owner, json_of_type}
-use Rattle.wit_json.specs.Values.{json_of_number, json_of_text, list_of, member, null_or, object, object_under_names, optional, pair, tagged}
+use Rattle.wit_json.specs.Values.{json_of_number, json_of_text, list_of, member, null_or, object, object_under_names, optional, pair, tagged, object_by}
 use Rattle.wit_json.specs.Worlds.{entry_name}
+use Rattle.json.specs.Json as json
 
 -- ---- types and functions
 
@@ -116,10 +113,6 @@ whole_item (item.Interface id stability docs span external_id) =
 whole_item (item.Function f) = tagged (codes "function") (whole_function f)
 whole_item (item.Type_ id span) = tagged (codes "type") (whole_type_entry id span)
 
-abbrev pub whole_entries : List (WorldKey × WorldItem) → Json
-whole_entries entries =
-    object (map (λ (e : WorldKey × WorldItem). (entry_name e.0, whole_item e.1)) entries)
-
 abbrev pub json_of_include_name : IncludeName → Json
 json_of_include_name name =
     object (member (codes "name") (json_of_text name.name)
@@ -133,8 +126,9 @@ json_of_include include =
 
 abbrev pub whole_world : World → Json
 whole_world world =
-    object (member (codes "name") (json_of_text world.name) ++ member (codes "imports")
-    (whole_entries world.imports) ++ member (codes "exports") (whole_entries world.exports)
+    object (member (codes "name") (json_of_text world.name)
+    ++ member (codes "imports") (object_by entry_name whole_item world.imports)
+    ++ member (codes "exports") (object_by entry_name whole_item world.exports)
     ++ member (codes "includes") (list_of json_of_include world.includes) ++ docs_member world.docs
     ++ stability_member world.stability ++ span_member world.span)
 
@@ -149,15 +143,9 @@ json_of_ast_item (ast.World id) = tagged (codes "world") (json_of_number id)
 abbrev pub json_of_gate : Stability → Json
 json_of_gate stability = null_or (λ (j : Json). j) (json_of_stability stability)
 
--- with the gates under which it is named
+-- what is named of another package, with the gates under which it is named
 abbrev pub json_of_foreign_item : AstItem × List Stability → Json
 json_of_foreign_item named = pair (json_of_ast_item named.0) (list_of json_of_gate named.1)
-
--- under the name of each package what is named of it
-abbrev pub json_of_deps : List (PackageName × List ForeignItem) → Json
-json_of_deps deps =
-    object (map (λ (e : PackageName × List ForeignItem).
-    (package_name_text e.0, object_under_names json_of_foreign_item e.1)) deps)
 
 -- ---- packages
 
@@ -167,7 +155,8 @@ json_of_unresolved p =
     ++ docs_member p.docs ++ member (codes "worlds") (list_of whole_world p.worlds)
     ++ member (codes "interfaces") (list_of whole_interface p.interfaces)
     ++ member (codes "types") (list_of whole_type p.types)
-    ++ member (codes "foreign-deps") (json_of_deps p.foreign_deps)
+    ++ member (codes "foreign-deps")
+    (object_by package_name_text (object_under_names json_of_foreign_item) p.foreign_deps)
     ++ member (codes "foreign-dep-spans") (list_of json_of_span p.foreign_dep_spans)
     ++ member (codes "unknown-type-spans") (list_of json_of_span p.unknown_type_spans)
     ++ member (codes "required-resources")

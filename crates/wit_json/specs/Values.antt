@@ -1,5 +1,5 @@
 -- How JSON values are put together: objects of members, lists, and the values that everything else is made of.
-use Rattle.std.specs.Prelude.{ℕ, List, [], ◌∷◌, ◌++◌, Option, Some, None, codes, decimal, map}
+use Rattle.std.specs.Prelude.{ℕ, List, [], ◌∷◌, Option, Some, None, decimal, map, ◌++◌, codes}
 use Rattle.semver.specs.Identifiers.{parts_text}
 use Rattle.json.specs.Json.{Json, Members}
 use Rattle.json.specs.Json as json
@@ -41,9 +41,13 @@ optional name (Some j) = (name, j) ∷ []
 abbrev pub tagged : List ℕ → Json → Json
 tagged name j = object (member name j)
 
+-- the object of what stands under keys, each of which has a name
+abbrev pub object_by : {K A : Type 0} → (K → List ℕ) → (A → Json) → List (K × A) → Json
+object_by {K} {A} name f es = object (map (λ (e : K × A). (name e.0, f e.1)) es)
+
 -- the object under names
 abbrev pub object_under_names : {A : Type 0} → (A → Json) → List (List ℕ × A) → Json
-object_under_names {A} f es = object (map (λ (e : List ℕ × A). (e.0, f e.1)) es)
+object_under_names f es = object_by (λ (name : List ℕ). name) f es
 
 -- ---- small values
 

@@ -1,10 +1,9 @@
 -- Interfaces and worlds as JSON.
-use Rattle.std.specs.Prelude.{ℕ, Bool, ◌&&◌, ◌||◌, List, ◌++◌, codes, decimal, drop, if◌then◌else◌, map, nat_eq}
+use Rattle.std.specs.Prelude.{ℕ, Bool, ◌&&◌, ◌||◌, List, ◌++◌, codes, decimal, drop, if◌then◌else◌, nat_eq}
 use Rattle.std.specs.Char.{is_ascii_digit}
 use Rattle.std.specs.List.{list_all, starts_with}
 use Rattle.json.specs.Json.{Json}
 use Rattle.wit_data.specs.declared.interface.Interface.{Interface}
-use Rattle.wit_data.specs.declared.stability.Stability.{Stability}
 use Rattle.wit_data.specs.declared.world.World.{World}
 use Rattle.wit_data.specs.declared.world.WorldItem.{WorldItem}
 use Rattle.wit_data.specs.declared.world.WorldItem.TheVariants as item
@@ -12,7 +11,7 @@ use Rattle.wit_data.specs.declared.world.WorldKey.{WorldKey}
 use Rattle.wit_data.specs.declared.world.WorldKey.TheVariants as key
 use Rattle.wit_json.specs.Functions.{json_of_function}
 use Rattle.wit_json.specs.Gates.{docs_member, stability_member}
-use Rattle.wit_json.specs.Values.{json_of_number, json_of_text, member, null_or, object, object_under_names, tagged}
+use Rattle.wit_json.specs.Values.{json_of_number, json_of_text, member, null_or, object, object_under_names, tagged, object_by}
 
 abbrev pub json_of_interface : Interface → Json
 json_of_interface interface =
@@ -36,25 +35,18 @@ abbrev pub entry_name : WorldKey → List ℕ
 entry_name (key.Name label) = if wants_mark label then codes "%" ++ label else label
 entry_name (key.Interface id) = codes "interface-" ++ decimal id
 
--- an interface that a world imports or exports
-abbrev pub json_of_interface_entry : ℕ → Stability → Json
-json_of_interface_entry id stability =
-    object (member (codes "id") (json_of_number id) ++ stability_member stability)
-
 -- what a world imports or exports
 abbrev pub json_of_item : WorldItem → Json
 json_of_item (item.Interface id stability docs span external_id) =
-    tagged (codes "interface") (json_of_interface_entry id stability)
+    tagged (codes "interface")
+    (object (member (codes "id") (json_of_number id) ++ stability_member stability))
 json_of_item (item.Function f) = tagged (codes "function") (json_of_function f)
 json_of_item (item.Type_ id span) = tagged (codes "type") (json_of_number id)
 
-abbrev pub json_of_entries : List (WorldKey × WorldItem) → Json
-json_of_entries entries =
-    object (map (λ (e : WorldKey × WorldItem). (entry_name e.0, json_of_item e.1)) entries)
-
 abbrev pub json_of_world : World → Json
 json_of_world world =
-    object (member (codes "name") (json_of_text world.name) ++ member (codes "imports")
-    (json_of_entries world.imports) ++ member (codes "exports") (json_of_entries world.exports)
+    object (member (codes "name") (json_of_text world.name)
+    ++ member (codes "imports") (object_by entry_name json_of_item world.imports)
+    ++ member (codes "exports") (object_by entry_name json_of_item world.exports)
     ++ member (codes "package") (null_or json_of_number world.«package») ++ docs_member world.docs
     ++ stability_member world.stability)

@@ -1,9 +1,10 @@
 //! What the layout leaves out of a graph.
 ghost use Rattle.std.specs.Prelude.{◌≡◌, ◌++◌, OnOk};
+ghost use Rattle.wit_json.specs.Worlds.{entry_name};
 ghost use Rattle.json.specs.Json.{Json};
 ghost use Rattle.json.specs.Tree.{json_tokens};
-ghost use Rattle.wit_json.specs.Details.{entries_details, external_id_member, function_details, graph_details, interface_details, item_details, json_of_span, parts_member, span_member, type_details, world_details};
-ghost use Rattle.wit_json.specs.Values.{list_of, member, object_under_names};
+ghost use Rattle.wit_json.specs.Details.{external_id_member, function_details, graph_details, interface_details, item_details, json_of_span, parts_member, span_member, type_details, world_details};
+ghost use Rattle.wit_json.specs.Values.{list_of, member, object_under_names, object_by};
 ghost use Rattle.wit_json.specs.steps.Members.{Adds};
 
 use crate::writer::{JsonText, WriteJson};
@@ -218,7 +219,7 @@ impl WriteDetails for WorldItem {
 }
 
 impl WriteDetails for Table<WorldKey, WorldItem> {
-    ghost details = { entries_details };
+    ghost details = { object_by entry_name item_details };
 
     fn write_details(&self, out: &mut JsonText) -> Result<(), AllocError> {
         out.begin_object()?;

@@ -1,9 +1,10 @@
 //! Refusals.
-ghost use Rattle.std.specs.Prelude.{◌≡◌, ◌++◌, IfOk, OnOk, string_bytes};
+ghost use Rattle.std.specs.Prelude.{◌≡◌, ◌++◌, IfOk, OnOk, string_bytes, codes};
 ghost use Rattle.json.specs.Tree.{json_tokens};
 ghost use Rattle.wit_json.specs.Graph.{compact};
-ghost use Rattle.wit_json.specs.Refusals.{cause_word, json_of_refusal, kind_word, refusal_object};
-ghost use Rattle.wit_json.specs.Values.{json_of_text, member};
+ghost use Rattle.wit_json.specs.Refusals.{cause_word, json_of_refusal, kind_word};
+ghost use Rattle.wit_json.specs.Details.{span_member};
+ghost use Rattle.wit_json.specs.Values.{json_of_number, json_of_text, member, object};
 ghost use Rattle.wit_json.specs.steps.Members.{Adds};
 
 use crate::writer::{JsonText, WriteJson, text_of};
@@ -31,8 +32,12 @@ impl JsonText {
         text: &Text,
         span: Span,
     ) -> Result<(), AllocError>
-        ensures { OnOk result
-            (self.new ≡ self.old ++ json_tokens (refusal_object number word.now text.now span)) }
+        ensures { OnOk result (self.new
+            ≡ self.old
+            ++ json_tokens
+            (object (member (codes "number") (json_of_number number)
+            ++ member (codes "cause") (json_of_text word.now)
+            ++ member (codes "text") (json_of_text text.now) ++ span_member span))) }
     {
         self.begin_object()?;
         self.member("number", &number)?;

@@ -1,10 +1,12 @@
 //! Unresolved packages.
 ghost use Rattle.std.specs.Prelude.{◌≡◌, ◌++◌, IfOk, OnOk, string_bytes};
+ghost use Rattle.wit_names.specs.PackageName.{package_name_text};
+ghost use Rattle.wit_json.specs.Worlds.{entry_name};
 ghost use Rattle.json.specs.Json.{Json};
 ghost use Rattle.json.specs.Tree.{json_tokens};
 ghost use Rattle.wit_json.specs.Graph.{compact};
-ghost use Rattle.wit_json.specs.Unresolved.{json_of_ast_item, json_of_deps, json_of_foreign_item, json_of_gate, json_of_include, json_of_include_name, json_of_unresolved, whole_case, whole_entries, whole_enum_case, whole_field, whole_flag, whole_function, whole_interface, whole_interface_entry, whole_item, whole_kind, whole_param, whole_type, whole_type_entry, whole_world};
-ghost use Rattle.wit_json.specs.Values.{list_of, member, object_under_names, tagged};
+ghost use Rattle.wit_json.specs.Unresolved.{json_of_ast_item, json_of_foreign_item, json_of_gate, json_of_include, json_of_include_name, json_of_unresolved, whole_case, whole_enum_case, whole_field, whole_flag, whole_function, whole_interface, whole_interface_entry, whole_item, whole_kind, whole_param, whole_type, whole_type_entry, whole_world};
+ghost use Rattle.wit_json.specs.Values.{list_of, member, object_under_names, tagged, object_by};
 ghost use Rattle.wit_json.specs.steps.Members.{Adds};
 
 use crate::writer::{JsonText, WriteJson, text_of};
@@ -274,7 +276,7 @@ impl WriteWhole for WorldItem {
 }
 
 impl WriteWhole for Table<WorldKey, WorldItem> {
-    ghost whole = { whole_entries };
+    ghost whole = { object_by entry_name whole_item };
 
     fn write_whole(&self, out: &mut JsonText) -> Result<(), AllocError> {
         out.begin_object()?;
@@ -356,7 +358,7 @@ impl WriteJson for Stability {
 }
 
 impl WriteJson for Table<PackageName, Names<(AstItem, Items<Stability>)>> {
-    ghost json = { json_of_deps };
+    ghost json = { object_by package_name_text (object_under_names json_of_foreign_item) };
 
     fn write_json(&self, out: &mut JsonText) -> Result<(), AllocError> {
         let alloc = out.allocator();

@@ -1,9 +1,10 @@
 //! Interfaces and worlds.
 ghost use Rattle.std.specs.Prelude.{◌≡◌, ◌++◌, ◌∷◌, [], OnOk, codes};
+ghost use Rattle.wit_json.specs.Gates.{stability_member};
 ghost use Rattle.json.specs.Token.{key as key_token};
 ghost use Rattle.json.specs.Tree.{json_tokens};
-ghost use Rattle.wit_json.specs.Values.{tagged};
-ghost use Rattle.wit_json.specs.Worlds.{entry_name, json_of_entries, json_of_interface, json_of_interface_entry, json_of_item, json_of_world};
+ghost use Rattle.wit_json.specs.Values.{tagged, object_by, json_of_number, member, object};
+ghost use Rattle.wit_json.specs.Worlds.{entry_name, json_of_interface, json_of_item, json_of_world};
 
 use crate::names::EntryName;
 use crate::writer::{JsonText, WriteJson};
@@ -40,7 +41,8 @@ impl JsonText {
         ensures { OnOk result (self.new
             ≡ self.old
             ++ json_tokens
-            (tagged (codes "interface") (json_of_interface_entry id stability.now))) }
+            (tagged (codes "interface")
+            (object (member (codes "id") (json_of_number id) ++ stability_member stability.now)))) }
     {
         self.begin_tagged("interface")?;
         self.interface_entry(id, stability)?;
@@ -49,8 +51,10 @@ impl JsonText {
 
     /// Writes its id and its gate.
     fn interface_entry(&mut self, id: InterfaceId, stability: &Stability) -> Result<(), AllocError>
-        ensures { OnOk result
-            (self.new ≡ self.old ++ json_tokens (json_of_interface_entry id stability.now)) }
+        ensures { OnOk result (self.new
+            ≡ self.old
+            ++ json_tokens
+            (object (member (codes "id") (json_of_number id) ++ stability_member stability.now))) }
     {
         self.begin_object()?;
         self.member("id", &id)?;
@@ -72,7 +76,7 @@ impl WriteJson for WorldItem {
 }
 
 impl WriteJson for Table<WorldKey, WorldItem> {
-    ghost json = { json_of_entries };
+    ghost json = { object_by entry_name json_of_item };
 
     fn write_json(&self, out: &mut JsonText) -> Result<(), AllocError> {
         out.begin_object()?;

@@ -1,9 +1,9 @@
 -- The ids of packages of some names, one after another.
-use Rattle.std.proofs.Common.{◌≡◌, ◌<◌, ◌∙◌, ℕ, suc, List, [], ◌∷◌, ◌++◌, Option, None, Some, length, get_or, drop, refl, sym, ap, append_assoc, drop-cons}
+use Rattle.std.proofs.Common.{◌≡◌, ◌<◌, ◌∙◌, ℕ, suc, List, [], ◌∷◌, ◌++◌, Option, None, Some, length, get_or, drop, refl, sym, ap, append_assoc, drop-cons, option_and_then, option_map}
 use Rattle.wit_names.specs.declared.package_name.PackageName.{PackageName}
 use Rattle.wit_graph_data.specs.Named.{package_named}
 use Rattle.wit_graph_data.specs.declared.graph.Graph.{Graph}
-use Rattle.wit_json_commands.specs.Tells.{packages_named, with_package}
+use Rattle.wit_json_commands.specs.Tells.{packages_named}
 
 -- ids in front of others, where these are there
 abbrev pub ids_before : List ℕ → Option (List ℕ) → Option (List ℕ)
@@ -13,6 +13,10 @@ ids_before ids (Some more) = Some (ids ++ more)
 pub none_before : (r : Option (List ℕ)) → r ≡ ids_before [] r
 none_before None = refl
 none_before (Some more) = refl
+
+-- the id of a name before those of others, where all are there
+abbrev with_package : Option ℕ → Option (List ℕ) → Option (List ℕ)
+with_package id others = option_and_then (λ i. option_map (λ ids. i ∷ ids) others) id
 
 one_before : (ids : List ℕ) (id : ℕ) (r : Option (List ℕ)) → ids_before ids (with_package (Some id) r) ≡ ids_before (ids ++ id ∷ []) r
 one_before ids id None = refl

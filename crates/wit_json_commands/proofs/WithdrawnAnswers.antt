@@ -1,5 +1,5 @@
 -- What is answered may be withdrawn.
-use Rattle.std.proofs.Common.{◌≡◌, ◌⊎◌, ◌∙◌, ◌++◌, ◌∷◌, [], ℕ, Bool, true, false, List, Option, None, Some, inl, inr, ap, codes, refl, subst, sym, option_and_then, slice_get, Result, Ok, Err, IfOk}
+use Rattle.std.proofs.Common.{◌≡◌, ◌⊎◌, ◌∙◌, ◌++◌, ◌∷◌, [], ℕ, true, false, List, Option, None, Some, inl, inr, ap, codes, refl, subst, sym, option_and_then, slice_get, Result, Ok, Err, IfOk, Bool}
 use Rattle.std.proofs.lemmas.Bool.{false≢true}
 use Rattle.wit_sources.specs.SourceMap.{Sources}
 use Rattle.wit_graph_data.specs.Named.{package_named, world_named}
@@ -108,7 +108,7 @@ reply_lists_none state asked it brought (reply.Refused error) told answers = ap 
 
 change_lists_none : (old new : State) (it : Change) (told : Answer) → CarriesOut old it told new → lists_types told ≡ false
 change_lists_none old new it told (inl answers) =
-    let answered = answers.answered in
+    let answered = answers.1 in
     reply_lists_none new (change_text it) (target_of old.graph (command_of it)) (asked_of old (command_of it)) answered.reply told answered.answers
 change_lists_none old new it told (inr tells) = ap lists_types tells.told_is
 

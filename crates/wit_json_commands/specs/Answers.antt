@@ -17,16 +17,12 @@ unmatched_member [] = []
 unmatched_member (key ∷ keys) =
     member (codes "unmatched") (list_of json_of_text (key ∷ keys))
 
--- a world that a command changed
-abbrev pub json_of_changed : ℕ → List (List ℕ) → Json
-json_of_changed world unmatched =
-    object (member (codes "world") (json_of_number world) ++ unmatched_member unmatched)
-
 -- the answer to a change or a question: a word, or what is answered under a word
 abbrev pub json_of_answer : Answer → Json
 json_of_answer answer.Done = json_of_text (codes "done")
 json_of_answer (answer.ChangedWorld world unmatched) =
-    tagged (codes "done") (json_of_changed world unmatched)
+    tagged (codes "done")
+    (object (member (codes "world") (json_of_number world) ++ unmatched_member unmatched))
 json_of_answer (answer.Pushed id) = tagged (codes "pushed") (json_of_number id)
 json_of_answer (answer.Merged remap) = tagged (codes "merged") (json_of_remap remap)
 json_of_answer answer.NoPackage = json_of_text (codes "no-package")
@@ -41,14 +37,10 @@ json_of_answer (answer.Types ids) = tagged (codes "types") (list_of json_of_numb
 json_of_answer (answer.Text text) = tagged (codes "text") (json_of_text text)
 json_of_answer (answer.CoreNames names) = tagged (codes "core-names") (json_of_core_names names)
 
--- the answers to what made another graph, and to its merge
-abbrev pub json_of_merge : List Answer → Answer → Json
-json_of_merge replies reply =
-    object (member (codes "replies") (list_of json_of_answer replies)
-    ++ member (codes "reply") (json_of_answer reply))
-
--- the answer to what is asked of a graph
+-- the answer to what is asked of a graph; of a merge the answers to what made the other graph, and to its merge
 abbrev pub json_of_response : Response → Json
 json_of_response (response.Answer it) = json_of_answer it
 json_of_response (response.Merge replies reply) =
-    tagged (codes "merge") (json_of_merge replies reply)
+    tagged (codes "merge")
+    (object (member (codes "replies") (list_of json_of_answer replies)
+    ++ member (codes "reply") (json_of_answer reply)))

@@ -28,19 +28,13 @@ mangling_and_abi asked.LegacyAsyncStackful = Legacy AsyncStackful
 abbrev pub PlacedFunction : Type 0
 PlacedFunction = Option WorldKey × Function
 
--- the functions of an interface
-abbrev pub interface_functions : WorldKey → Interface → List PlacedFunction
-interface_functions key interface =
-    map (λ (e : List ℕ × Function). (Some key, e.1)) interface.functions
-
--- the functions of the interface of an id
-abbrev pub functions_at : Graph → WorldKey → ℕ → List PlacedFunction
-functions_at g key i = option_map_or (interface_functions key) (slice_get g.interfaces i) []
-
--- the functions of an entry of a world
+-- the functions of an entry of a world: of an interface those that it has
 abbrev pub entry_functions : Graph → WorldKey × WorldItem → List PlacedFunction
 entry_functions g (key, item.Function f) = (None, f) ∷ []
-entry_functions g (key, item.Interface id stability docs span external_id) = functions_at g key id
+entry_functions g (key, item.Interface id stability docs span external_id) =
+    option_map_or (λ (interface : Interface).
+    map (λ (e : List ℕ × Function). (Some key, e.1)) interface.functions)
+    (slice_get g.interfaces id) []
 entry_functions g (key, item.Type_ id span) = []
 
 -- the module and the field of a function that is imported, as `import_names` has them
@@ -56,25 +50,27 @@ function_export_name g Standard32 placed =
 function_export_name g (Legacy abi) placed =
     export_prefix abi ++ (legacy_key g placed.0 ++ placed.1.name)
 
-abbrev pub named_import : PlacedFunction → List ℕ × List ℕ → CoreImport
-named_import placed names =
-    record { interface = placed.0; function = placed.1.name; «module» = names.0; field = names.1 }
-
 -- a function that is imported, where its interface has a name
 abbrev pub core_import : Graph → ManglingAndAbi → PlacedFunction → Option CoreImport
 core_import g mangling placed =
     if interface_has_name g.interfaces placed.0
-    then Some (named_import placed (function_import_names g mangling placed))
+    then Some (record {
+      interface = placed.0;
+      function = placed.1.name;
+      «module» = (function_import_names g mangling placed).0;
+      field = (function_import_names g mangling placed).1;
+    })
     else None
-
-abbrev pub named_export : PlacedFunction → List ℕ → CoreExport
-named_export placed name = record { interface = placed.0; function = placed.1.name; name = name }
 
 -- a function that is exported, where its interface has a name
 abbrev pub core_export : Graph → ManglingAndAbi → PlacedFunction → Option CoreExport
 core_export g mangling placed =
     if interface_has_name g.interfaces placed.0
-    then Some (named_export placed (function_export_name g mangling placed))
+    then Some (record {
+      interface = placed.0;
+      function = placed.1.name;
+      name = function_export_name g mangling placed;
+    })
     else None
 
 abbrev pub core_imports : Graph → ManglingAndAbi → List (WorldKey × WorldItem) → List CoreImport

@@ -8,13 +8,10 @@ use Rattle.wit_json_commands.specs.declared.replies.core_names.CoreExport.{CoreE
 use Rattle.wit_json_commands.specs.declared.replies.core_names.CoreImport.{CoreImport}
 use Rattle.wit_json_commands.specs.declared.replies.core_names.CoreNames.{CoreNames}
 
--- a key, as it names an entry of a world
-abbrev pub json_of_key : WorldKey → Json
-json_of_key key = json_of_text (entry_name key)
-
--- the interface that a function stands in, `null` where it is one of the world itself
+-- the interface that a function stands in, as its key names an entry; `null` where it is one of the world itself
 abbrev pub interface_member : Option WorldKey → List Member
-interface_member interface = member (codes "interface") (null_or json_of_key interface)
+interface_member interface =
+    member (codes "interface") (null_or (λ key. json_of_text (entry_name key)) interface)
 
 abbrev pub json_of_core_import : CoreImport → Json
 json_of_core_import it =

@@ -32,15 +32,11 @@ read_request_by name j =
     if is_change name then (read_change_by name j >>= λ it. Ok (request.Change it))
     else (read_question_by name j >>= λ it. Ok (request.Ask it))
 
--- a request without parts
-abbrev pub read_plain_request : List ℕ → Reading Request
-read_plain_request word =
+-- a change or a question, of which one has no parts
+unfoldable pub read_request : Json → Reading Request
+read_request (json.string word) =
     if bytes_eq word (codes "package-order") then Ok (request.Ask PackageOrder)
     else instead_of expected.Command
-
--- a change or a question
-unfoldable pub read_request : Json → Reading Request
-read_request (json.string word) = read_plain_request word
 read_request j = read_variant read_request_by expected.Command j
 
 abbrev pub read_order_by : List ℕ → Json → Reading Order
@@ -51,7 +47,8 @@ read_order_by name j =
 
 -- a change, a question, or a merge
 unfoldable pub read_order : Json → Reading Order
-read_order (json.string word) = read_plain_request word >>= λ it. Ok (order.Request it)
+read_order (json.string word) =
+    read_request (json.string word) >>= λ it. Ok (order.Request it)
 read_order j = read_variant read_order_by expected.Command j
 
 -- `{"resolve": .., "commands": [..]}`; the graph with which a document begins may be left out

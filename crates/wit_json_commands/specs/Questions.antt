@@ -1,6 +1,7 @@
 -- What questions about a graph are read from.
 use Rattle.std.specs.Prelude.{ℕ, List, [], ◌∷◌, Ok, codes, if◌then◌else◌, bytes_eq}
 use Rattle.json.specs.Json.{Json}
+use Rattle.json.specs.Json as json
 use Rattle.wit_json_reading.specs.Objects.{alone, read_variant}
 use Rattle.wit_json_reading.specs.Packages.{read_package_name}
 use Rattle.wit_json_reading.specs.Reading.{Reading, ◌>>=◌, instead_of, read_list, only, read_optional, read_required}
@@ -37,17 +38,15 @@ read_canonical_id j = do
 
 -- ---- names of core wasm
 
-abbrev pub mangling_in : List ℕ → Reading Mangling
-mangling_in word =
+-- a mangling by its name
+unfoldable pub read_mangling : Json → Reading Mangling
+read_mangling (json.string word) =
     if bytes_eq word (codes "standard32") then Ok Standard32
     else if bytes_eq word (codes "legacy-sync") then Ok LegacySync
     else if bytes_eq word (codes "legacy-async-callback") then Ok LegacyAsyncCallback
     else if bytes_eq word (codes "legacy-async-stackful") then Ok LegacyAsyncStackful
     else instead_of expected.Mangling
-
--- a mangling by its name
-unfoldable pub read_mangling : Json → Reading Mangling
-read_mangling j = read_text j >>= λ word. mangling_in word
+read_mangling _ = instead_of expected.Text
 
 unfoldable pub read_core_names : Json → Reading Question
 read_core_names j = do
@@ -67,16 +66,13 @@ read_place_in site j = do
   function ← read_required read_text (codes "function") j
   Ok (record { site = site; «package» = home; name = name; function = function })
 
+-- a function of an interface or a world
 abbrev pub read_function_place_by : List ℕ → Json → Reading FunctionPlace
 read_function_place_by name j =
     if bytes_eq name (codes "interface") then read_place_in site.Interface j
     else if bytes_eq name (codes "import") then read_place_in site.Import j
     else if bytes_eq name (codes "export") then read_place_in site.Export j
     else instead_of expected.FunctionPlace
-
--- a function of an interface or a world
-unfoldable pub read_function_place : Json → Reading FunctionPlace
-read_function_place j = read_variant read_function_place_by expected.FunctionPlace j
 
 -- the question of a name
 unfoldable pub read_question_by : List ℕ → Json → Reading Question
@@ -89,5 +85,6 @@ read_question_by name j =
     else if bytes_eq name (codes "canonical-id") then read_canonical_id j
     else if bytes_eq name (codes "core-names") then read_core_names j
     else if bytes_eq name (codes "futures-and-streams")
-    then (read_function_place j >>= λ place. Ok (question.FuturesAndStreams place))
+    then (read_variant read_function_place_by expected.FunctionPlace j
+    >>= λ place. Ok (question.FuturesAndStreams place))
     else instead_of expected.Command

@@ -13,20 +13,17 @@ use Rattle.wit_json_commands.specs.declared.replies.answers.Refusal.{Refusal}
 use Rattle.wit_json_commands.specs.declared.replies.file_places.FilePlace.{FilePlace}
 use Rattle.wit_json_commands.specs.declared.replies.refusals.WayStep.{WayStep}
 
--- what was asked for, and the package that lacks it
-abbrev pub missing_fields : Json → Json → List Member
-missing_fields requested home =
-    member (codes "requested") requested ++ member (codes "package") home
-
 -- the fields of an error under their names, but for its span and its cause, which stand beside them
 abbrev pub error_fields : ResolveErrorKind → List Member
 error_fields (kind.PackageNotFound span requested known) =
     member (codes "requested") (json_of_package_name requested)
     ++ member (codes "known") (list_of json_of_package_name known)
 error_fields (kind.WorldNotFound span requested home) =
-    missing_fields (json_of_text requested) (json_of_package_name home)
+    member (codes "requested") (json_of_text requested)
+    ++ member (codes "package") (json_of_package_name home)
 error_fields (kind.InterfaceNotFound span requested home) =
-    missing_fields (json_of_text requested) (json_of_package_name home)
+    member (codes "requested") (json_of_text requested)
+    ++ member (codes "package") (json_of_package_name home)
 error_fields (kind.InvalidTransitiveDependency span name) =
     member (codes "name") (json_of_text name)
 error_fields (kind.DuplicatePackage name span1 span2) =

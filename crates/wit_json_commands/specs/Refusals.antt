@@ -36,29 +36,25 @@ way_step files a = record { from = a.from; to = a.to; place = file_place files a
 abbrev pub place_lines : List SourceFile → OptionalSpan → List ℕ
 place_lines files span = option_map_or (λ shown. codes "\n" ++ shown) (shown_span files span) []
 
--- the line of a step of a way
-abbrev pub arrow_text : List SourceFile → Arrow → List ℕ
-arrow_text files a = place_lines files a.span
-
 -- on a line of its own `way: A -> B -> .. -> C`, and the line of each step
 abbrev pub way_lines : List SourceFile → List Arrow → List ℕ
 way_lines files [] = []
 way_lines files (a ∷ way) =
-    codes "\n      = way: " ++ (way_names (a ∷ way) ++ flat_map (arrow_text files) (a ∷ way))
+    codes "\n      = way: "
+    ++ (way_names (a ∷ way)
+    ++ flat_map (λ (step : Arrow). place_lines files step.span) (a ∷ way))
 
--- on lines of their own what was asked, and which document says more of the number
-abbrev pub asked_text : List ℕ → ℕ → List ℕ
-asked_text asked number =
-    codes "\n      = "
-    ++ (asked ++ (codes "\n      = " ++ (decimal number ++ codes " in docs/REFUSALS.md")))
-
--- an error with the lines in which some spans begin, its way, and what was asked
+-- an error with the lines in which some spans begin, its way, and on lines of their own what was asked and which document
+-- says more of its number
 abbrev pub text_of_error : List SourceFile → List OptionalSpan → List ℕ → List Arrow
     → ResolveErrorKind → List ℕ
 text_of_error files spans asked way error =
     kind_text error
     ++ (flat_map (place_lines files) spans
-    ++ (way_lines files way ++ asked_text asked (error_number error)))
+    ++ (way_lines files way
+    ++ (codes "\n      = "
+    ++ (asked
+    ++ (codes "\n      = " ++ (decimal (error_number error) ++ codes " in docs/REFUSALS.md"))))))
 
 -- the same of an error of a graph, with its lines in these files
 abbrev pub rendered : Graph → Sources → List ℕ → List Arrow → ResolveErrorKind → List ℕ

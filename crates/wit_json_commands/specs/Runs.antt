@@ -49,12 +49,8 @@ pub record CarriesOutCommand (asked : List ℕ) (old : State) (it : Command) (to
 
 -- ---- changes
 
--- a change whose groups have their shape is carried out
-pub record AnswersShaped (old : State) (it : Change) (told : Answer) (new : State) : Type 0 where
-  pub shaped : IsChangeShaped it
-  pub answered : CarriesOutCommand (change_text it) old (command_of it) told new
-
--- of another one the first package is told that lacks its shape, with what it lacks, and nothing has changed
+-- of a change whose groups lack their shape the first package is told that lacks it, with what it lacks, and nothing has
+-- changed
 pub record TellsShape (old : State) (it : Change) (told : Answer) (new : State) : Type 0 where
   pub lacks : IsChangeShaped it → ⊥
   pub unshaped : Unshaped
@@ -62,8 +58,11 @@ pub record TellsShape (old : State) (it : Change) (told : Answer) (new : State) 
   pub told_is : told ≡ answer.NotShaped unshaped
   pub same : new ≡ old
 
+-- another change is carried out
 abbrev pub CarriesOut : State → Change → Answer → State → Type 0
-CarriesOut old it told new = AnswersShaped old it told new ⊎ TellsShape old it told new
+CarriesOut old it told new =
+    (IsChangeShaped it × CarriesOutCommand (change_text it) old (command_of it) told new)
+    ⊎ TellsShape old it told new
 
 -- ---- requests and orders
 

@@ -26,16 +26,14 @@ import_key_texts g w =
 abbrev pub keys_not_among : List (List ℕ) → List (List ℕ) → List (List ℕ)
 keys_not_among others keys = filter (λ key. not (list_any (bytes_eq key) others)) keys
 
--- the keys that are listed and that no import of world w has
-abbrev pub unmatched_keys : Graph → Option (List (List ℕ)) → ℕ → List (List ℕ)
-unmatched_keys g keys w = keys_not_among (import_key_texts g w) (unwrap_or keys [])
-
--- the world of a name in the package of a name, and which of the keys that are listed it has not
+-- the world of a name in the package of a name, and which of the keys that are listed none of its imports has
 abbrev pub world_target : Graph → PackageName → List ℕ → Option (List (List ℕ)) → Target
 world_target g home name keys =
     option_map_or (λ p.
-    option_map_or (λ w. target.World w (unmatched_keys g keys w)) (world_in g name p)
-    target.NoWorld) (package_named g home) target.NoPackage
+    option_map_or
+    (λ w. target.World w (keys_not_among (import_key_texts g w) (unwrap_or keys [])))
+    (world_in g name p) target.NoWorld)
+    (package_named g home) target.NoPackage
 
 abbrev pub target_of : Graph → Command → Target
 target_of g (command.Importize home world out) = world_target g home world None

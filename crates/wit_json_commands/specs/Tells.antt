@@ -1,5 +1,5 @@
 -- What is answered to questions about a graph.
-use Rattle.std.specs.Prelude.{◌≡◌, ◌⊎◌, ℕ, List, [], ◌∷◌, Option, None, Some, Ok, option_and_then, slice_get, codes, bytes_eq, if◌then◌else◌}
+use Rattle.std.specs.Prelude.{◌≡◌, ◌⊎◌, ℕ, List, [], ◌∷◌, Option, None, Some, Ok, option_and_then, slice_get, codes, bytes_eq, if◌then◌else◌, option_map}
 use Rattle.std.specs.Map.{lookup}
 use Rattle.std.specs.Option.{option_or}
 use Rattle.wit_names.specs.declared.package_name.PackageName.{PackageName}
@@ -17,10 +17,8 @@ use Rattle.wit_graph_data.specs.declared.error_kind.ResolveErrorKind.TheVariants
 use Rattle.wit_graph_data.specs.declared.graph.Graph.{Graph}
 use Rattle.wit_queries.specs.Selection.{IsSelectionError, selected_world}
 use Rattle.wit_json_commands.specs.Asked.{question_word}
-use Rattle.wit_json_commands.specs.declared.commands.questions.FunctionPlace.{FunctionPlace}
 use Rattle.wit_json_commands.specs.declared.commands.questions.FunctionSite.{FunctionSite}
 use Rattle.wit_json_commands.specs.declared.commands.questions.FunctionSite.TheVariants as site
-use Rattle.wit_json_commands.specs.declared.commands.questions.Mangling.{Mangling}
 use Rattle.wit_json_commands.specs.declared.commands.questions.Question.{Question}
 use Rattle.wit_json_commands.specs.declared.commands.questions.Question.TheVariants as question
 use Rattle.wit_json_commands.specs.Refusals.{refused}
@@ -36,13 +34,11 @@ found f (Some x) = f x
 -- ---- which world a text names
 
 -- the ids of packages of these names, where all are there
-abbrev pub with_package : Option ℕ → Option (List ℕ) → Option (List ℕ)
-with_package (Some id) (Some ids) = Some (id ∷ ids)
-with_package _ _ = None
-
 abbrev pub packages_named : Graph → List PackageName → Option (List ℕ)
 packages_named g [] = Some []
-packages_named g (name ∷ names) = with_package (package_named g name) (packages_named g names)
+packages_named g (name ∷ names) =
+    option_and_then (λ id. option_map (λ ids. id ∷ ids) (packages_named g names))
+    (package_named g name)
 
 -- the world that a text names among main packages, or an error that says why there is none
 abbrev pub TellsSelected : Graph → Sources → List ℕ → Option (List ℕ) → Answer → Type 0
@@ -56,39 +52,10 @@ abbrev pub TellsAmong : Graph → Sources → Option (List ℕ) → Option (List
 TellsAmong g files None text told = told ≡ answer.NotFound
 TellsAmong g files (Some mains) text told = TellsSelected g files mains text told
 
-abbrev pub TellsSelect : Graph → Sources → List PackageName → Option (List ℕ) → Answer → Type 0
-TellsSelect g files names text told = TellsAmong g files (packages_named g names) text told
-
--- ---- dependencies
+-- ---- functions
 
 abbrev pub interface_id_named : Graph → PackageName → List ℕ → Option ℕ
 interface_id_named g home name = option_and_then (interface_in g name) (package_named g home)
-
-abbrev pub package_dependencies_answer : Graph → PackageName → Answer
-package_dependencies_answer g name =
-    found (λ p. answer.Packages (package_direct_deps g.types g.interfaces g.worlds g.packages p))
-    (package_named g name)
-
-abbrev pub interface_dependencies : Graph → PackageName → List ℕ → Answer
-interface_dependencies g home name =
-    found (λ i. answer.Interfaces (interface_direct_deps g.types g.interfaces i))
-    (interface_id_named g home name)
-
-abbrev pub package_order : Graph → Answer
-package_order g = answer.Packages (topological_packages g.types g.interfaces g.worlds g.packages)
-
--- ---- names
-
-abbrev pub canonical_id : Graph → PackageName → List ℕ → Answer
-canonical_id g home name =
-    found (λ p. answer.Text (canonical_id_text g.packages p name)) (package_named g home)
-
-abbrev pub core_names : Graph → PackageName → List ℕ → Mangling → Answer
-core_names g home world mangling =
-    found (λ it. answer.CoreNames (core_names_of g (mangling_and_abi mangling) it))
-    (option_and_then (slice_get g.worlds) (world_named g home world))
-
--- ---- functions
 
 -- the function that an entry is, where it has this label
 abbrev pub entry_function : List ℕ → WorldKey × WorldItem → Option Function
@@ -100,48 +67,45 @@ abbrev pub function_under : List ℕ → List (WorldKey × WorldItem) → Option
 function_under label [] = None
 function_under label (e ∷ es) = option_or (entry_function label e) (function_under label es)
 
-abbrev pub interface_function : Graph → PackageName → List ℕ → List ℕ → Option Function
-interface_function g home name f =
+-- a function of an interface, or one that a world imports or exports
+abbrev pub function_at : Graph → FunctionSite → PackageName → List ℕ → List ℕ → Option Function
+function_at g site.Interface home name f =
     option_and_then (λ (interface : Interface). lookup (bytes_eq f) interface.functions)
     (option_and_then (slice_get g.interfaces) (interface_id_named g home name))
-
-abbrev pub import_function : Graph → PackageName → List ℕ → List ℕ → Option Function
-import_function g home name f =
+function_at g site.Import home name f =
     option_and_then (λ (world : World). function_under f world.imports)
     (option_and_then (slice_get g.worlds) (world_named g home name))
-
-abbrev pub export_function : Graph → PackageName → List ℕ → List ℕ → Option Function
-export_function g home name f =
+function_at g site.Export home name f =
     option_and_then (λ (world : World). function_under f world.exports)
     (option_and_then (slice_get g.worlds) (world_named g home name))
-
-abbrev pub function_in : FunctionSite → Graph → PackageName → List ℕ → List ℕ → Option Function
-function_in site.Interface = interface_function
-function_in site.Import = import_function
-function_in site.Export = export_function
-
-abbrev pub function_at : Graph → FunctionPlace → Option Function
-function_at g place = function_in place.site g place.«package» place.name place.function
-
-abbrev pub futures_and_streams_answer : Graph → FunctionPlace → Answer
-futures_and_streams_answer g place =
-    found (λ f. answer.Types (function_futures g.types f)) (function_at g place)
 
 -- ---- all questions
 
 -- this is what a question asks about a graph whose spans stand in these files
 abbrev pub TellsAnswer : Graph → Sources → Question → Answer → Type 0
-TellsAnswer g files (question.Select names text) told = TellsSelect g files names text told
+TellsAnswer g files (question.Select names text) told =
+    TellsAmong g files (packages_named g names) text told
 TellsAnswer g files (question.PackageDependencies home) told =
-    told ≡ package_dependencies_answer g home
+    told
+    ≡ found (λ p. answer.Packages (package_direct_deps g.types g.interfaces g.worlds g.packages p))
+    (package_named g home)
 TellsAnswer g files (question.InterfaceDependencies home name) told =
-    told ≡ interface_dependencies g home name
-TellsAnswer g files question.PackageOrder told = told ≡ package_order g
-TellsAnswer g files (question.CanonicalId home name) told = told ≡ canonical_id g home name
+    told
+    ≡ found (λ i. answer.Interfaces (interface_direct_deps g.types g.interfaces i))
+    (interface_id_named g home name)
+TellsAnswer g files question.PackageOrder told =
+    told ≡ answer.Packages (topological_packages g.types g.interfaces g.worlds g.packages)
+TellsAnswer g files (question.CanonicalId home name) told =
+    told
+    ≡ found (λ p. answer.Text (canonical_id_text g.packages p name)) (package_named g home)
 TellsAnswer g files (question.CoreNames home world mangling) told =
-    told ≡ core_names g home world mangling
+    told
+    ≡ found (λ it. answer.CoreNames (core_names_of g (mangling_and_abi mangling) it))
+    (option_and_then (slice_get g.worlds) (world_named g home world))
 TellsAnswer g files (question.FuturesAndStreams place) told =
-    told ≡ futures_and_streams_answer g place
+    told
+    ≡ found (λ f. answer.Types (function_futures g.types f))
+    (function_at g place.site place.«package» place.name place.function)
 
 -- this may be answered: what is asked, or the refusal of memory for it
 abbrev pub AnswersQuestion : Graph → Sources → Question → Answer → Type 0

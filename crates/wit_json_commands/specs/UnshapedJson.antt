@@ -4,31 +4,23 @@ use Rattle.json.specs.Json.{Json}
 use Rattle.json.specs.Json as json
 use Rattle.json.specs.Value.{items_of}
 use Rattle.wit_shape.specs.FaultText.{clause_name, clause_text, place_text}
-use Rattle.wit_shape.specs.declared.fault.ShapeFault.{ShapeFault}
-use Rattle.wit_json.specs.Values.{Member, json_of_number, json_of_text, member, object}
+use Rattle.wit_json.specs.Values.{json_of_number, json_of_text, member, object}
 use Rattle.wit_json_commands.specs.declared.replies.unshaped.Unshaped.{Unshaped}
 
--- where a group stands in a push: the main one, or one by its index among those that come with it
-abbrev pub group_steps : Option ℕ → List Json
-group_steps None = json_of_text (codes "main") ∷ []
-group_steps (Some i) = json_of_text (codes "deps") ∷ json_of_number i ∷ []
+-- the main one, or one by its index in a list of this name
+abbrev pub steps_to : List ℕ → Option ℕ → List Json
+steps_to name None = json_of_text (codes "main") ∷ []
+steps_to name (Some i) = json_of_text name ∷ json_of_number i ∷ []
 
--- where a package stands in a group: the main one, or one by its index among the nested ones
-abbrev pub package_steps : Option ℕ → List Json
-package_steps None = json_of_text (codes "main") ∷ []
-package_steps (Some i) = json_of_text (codes "nested") ∷ json_of_number i ∷ []
-
--- the path to a package of a push
+-- the path to a package of a push: to its group, and to it in its group
 abbrev pub package_path : Option ℕ → Option ℕ → Json
-package_path group «package» = json.array (items_of (group_steps group ++ package_steps «package»))
+package_path group «package» =
+    json.array (items_of (steps_to (codes "deps") group ++ steps_to (codes "nested") «package»))
 
--- the clause of the shape that is broken, and what breaks it
-abbrev pub fault_members : ShapeFault → List Member
-fault_members fault =
-    member (codes "clause") (json_of_text (clause_name fault.clause))
-    ++ member (codes "place") (json_of_text (place_text fault.place))
-    ++ member (codes "text") (json_of_text (clause_text fault.clause))
-
+-- where the package is, the clause of the shape that is broken, and what breaks it
 abbrev pub json_of_unshaped : Unshaped → Json
 json_of_unshaped it =
-    object (member (codes "path") (package_path it.group it.«package») ++ fault_members it.fault)
+    object (member (codes "path") (package_path it.group it.«package»)
+    ++ (member (codes "clause") (json_of_text (clause_name it.fault.clause))
+    ++ member (codes "place") (json_of_text (place_text it.fault.place))
+    ++ member (codes "text") (json_of_text (clause_text it.fault.clause))))

@@ -1,7 +1,7 @@
 -- The layout of interfaces, worlds and packages reads as these read_leaving_out what their details have.
 use Rattle.std.proofs.Common.{◌≡◌, ◌∙◌, ℕ, suc, Bool, false, List, [], ◌∷◌, ◌++◌, length, map, Option, Some, None, Ok, refl, sym, ap, subst, codes, if◌then◌else◌, is_some, append-nil, append_assoc}
-use Rattle.std.specs.Map.{lookup}
 use Rattle.std.specs.Option.{option_map}
+use Rattle.std.specs.Map.{lookup}
 use Rattle.std.specs.Prelude.{IfSome}
 use Rattle.json.specs.Find.{get}
 use Rattle.json.specs.Json.{Json}
@@ -22,25 +22,25 @@ use Rattle.wit_data.specs.declared.world.WorldKey.{WorldKey}
 use Rattle.wit_data.specs.declared.world.WorldKey.TheVariants as key
 use Rattle.wit_graph_data.specs.declared.graph.Package.{Package}
 use Rattle.wit_json.specs.Functions.{json_of_function}
-use Rattle.wit_json.specs.Gates.{json_of_docs, json_of_stability, stability_member}
+use Rattle.wit_json.specs.Gates.{json_of_stability, stability_member}
 use Rattle.wit_json.specs.Graph.{json_of_package, json_of_package_name}
-use Rattle.wit_json.specs.Unresolved.{whole_entries, whole_function, whole_item}
-use Rattle.wit_json.specs.Values.{Member, json_of_number, json_of_text, member, null_or, object, object_under_names, tagged}
-use Rattle.wit_json.specs.Worlds.{entry_name, json_of_entries, json_of_interface, json_of_item, json_of_world}
+use Rattle.wit_json.specs.Unresolved.{whole_function, whole_item}
+use Rattle.wit_json.specs.Values.{Member, json_of_number, json_of_text, member, null_or, object, object_under_names, tagged, object_by}
+use Rattle.wit_json.specs.Worlds.{entry_name, json_of_interface, json_of_item, json_of_world}
 use Rattle.wit_json_graphs.specs.Writable.{AreWritableEntries, FitsKey, IsWritableFunction, IsWritableHome, IsWritableId, IsWritableInterface, IsWritableItem, IsWritableWorld, in_order}
 use Rattle.wit_json_reading.specs.Functions.{read_function}
-use Rattle.wit_json_reading.specs.Graphs.{read_graph_package, homes_from, homes_of, with_home}
+use Rattle.wit_json_reading.specs.Graphs.{read_graph_package, homes_from, with_home}
 use Rattle.wit_json_reading.specs.Packages.{read_package_name}
-use Rattle.wit_json_reading.specs.Reading.{instead_of, read_list, read_optional, under, read_leaving_out}
+use Rattle.wit_json_reading.specs.Reading.{instead_of, read_list, read_optional, under, read_leaving_out, read_or}
 use Rattle.wit_json_reading.specs.Tables.{read_named}
 use Rattle.wit_json_reading.specs.Values.{nullable, read_number, read_text}
-use Rattle.wit_json_reading.specs.Worlds.{read_entries, read_include, read_includes, interface_members, read_interface, world_members, read_world}
+use Rattle.wit_json_reading.specs.Worlds.{read_entries, read_include, read_interface, read_world}
 use Rattle.wit_json_reading.specs.declared.fault.Expected.TheVariants as expected
 use Rattle.wit_json_reading.specs.declared.fault.Step.TheVariants as step
 use Rattle.wit_json_graphs.proofs.Bare.{at_value, bare_function, each_of_map, function_fits, function_is, keys_stay, maps_same, no_more, no_two_more}
 use Rattle.wit_json_graphs.proofs.Functions.{reads_function}
 use Rattle.wit_json_graphs.proofs.Packages.{reads_name_value}
-use Rattle.wit_json_graphs.proofs.Slots.{Slot, get_slot, only_slots, slots}
+use Rattle.wit_json_graphs.proofs.Slots.{Slot, get_slot, only_slots, slots, json_of_docs}
 use Rattle.wit_json_graphs.proofs.Small.{reads_docs, reads_number, reads_span_member, reads_stability}
 use Rattle.wit_json_graphs.proofs.Steps.{all_5, all_8, all_9, is_new, reads_named, reads_optional, reads_required, reads_without, followed}
 use Rattle.wit_json_graphs.proofs.Types.{reads_name}
@@ -76,7 +76,7 @@ reads_bare_interface i fits placed =
     all_8 (λ (_ : Unit {0}) (name : Option (List ℕ)) (types : List (List ℕ × ℕ)) (functions : List (List ℕ × Function)) (docs : Docs) (stability : Stability) (home : Option ℕ)
     (span : Option (ℕ × ℕ)).
     let it : Interface = record { name = name; types = types; functions = functions; docs = docs; stability = stability; «package» = home; span = span } in it)
-    (only_slots interface_members ss refl)
+    (only_slots (codes "name" ∷ codes "types" ∷ codes "functions" ∷ codes "docs" ∷ codes "stability" ∷ codes "package" ∷ codes "span" ∷ []) ss refl)
     (reads_required (nullable read_text) (codes "name") j (null_or json_of_text i.name) i.name (get_slot (codes "name") ss) (reads_name i.name))
     (reads_required (read_named read_number) (codes "types") j (object_under_names json_of_number i.types) i.types (get_slot (codes "types") ss)
     (reads_named read_number json_of_number i.types fits.types_differ (λ n e at. reads_number e.1 (fits.types n e at))))
@@ -127,12 +127,12 @@ entries_fit es fits = record {
       (λ (e : WorldKey × WorldItem) (it : IsWritableItem e.1). item_fits e.1 it) es fits.items;
 }
 
-pub entries_are : (es : List (WorldKey × WorldItem)) → json_of_entries es ≡ whole_entries (bare_entries es)
+pub entries_are : (es : List (WorldKey × WorldItem)) → object_by entry_name json_of_item es ≡ object_by entry_name whole_item (bare_entries es)
 entries_are es =
     ap object (maps_same (λ (e : WorldKey × WorldItem). (entry_name e.0, json_of_item e.1)) (λ (e : WorldKey × WorldItem). (entry_name e.0, whole_item e.1)) (at_value bare_item)
     (λ (e : WorldKey × WorldItem). ap (λ (j : Json). (entry_name e.0, j)) (item_is e.1)) es)
 
-reads_bare_entries : (es : List (WorldKey × WorldItem)) → AreWritableEntries es → read_entries (json_of_entries es) ≡ Ok (bare_entries es)
+reads_bare_entries : (es : List (WorldKey × WorldItem)) → AreWritableEntries es → read_entries (object_by entry_name json_of_item es) ≡ Ok (bare_entries es)
 reads_bare_entries es fits = ap read_entries (entries_are es) ∙ reads_world_entries (bare_entries es) (entries_fit es fits)
 
 -- ---- worlds
@@ -141,8 +141,8 @@ reads_bare_entries es fits = ap read_entries (entries_are es) ∙ reads_world_en
 abbrev pub bare_world : World → World
 bare_world world = record world { imports = bare_entries world.imports; exports = bare_entries world.exports; includes = []; span = None }
 
-reads_no_includes : (j : Json) → get (codes "includes") j ≡ None → read_includes j ≡ Ok []
-unfolding read_includes
+reads_no_includes : (j : Json) → get (codes "includes") j ≡ None → read_or (read_list read_include) [] (codes "includes") j ≡ Ok []
+unfolding read_or
 reads_no_includes j there =
     followed (read_optional (read_list read_include) (codes "includes") j) _ None (Ok []) (reads_optional (read_list read_include) (λ (is : List WorldInclude). json_of_text []) (codes "includes") j None there tt) refl
 
@@ -150,16 +150,16 @@ reads_placed_world : (world : World) → IsWritableWorld world → IfSome world.
 unfolding read_world
 reads_placed_world w fits placed =
     let ss : List Slot =
-    (codes "name", Some (json_of_text w.name)) ∷ (codes "imports", Some (json_of_entries w.imports)) ∷ (codes "exports", Some (json_of_entries w.exports))
+    (codes "name", Some (json_of_text w.name)) ∷ (codes "imports", Some (object_by entry_name json_of_item w.imports)) ∷ (codes "exports", Some (object_by entry_name json_of_item w.exports))
     ∷ (codes "package", Some (null_or json_of_number w.«package»)) ∷ (codes "docs", json_of_docs w.docs) ∷ (codes "stability", json_of_stability w.stability) ∷ [] in
     let j = slots ss in
     all_9 (λ (_ : Unit {0}) (name : List ℕ) (imports exports : List (WorldKey × WorldItem)) (includes : List WorldInclude) (docs : Docs) (stability : Stability) (home : Option ℕ)
     (span : Option (ℕ × ℕ)).
     let it : World = record { name = name; imports = imports; exports = exports; docs = docs; stability = stability; «package» = home; includes = includes; span = span } in it)
-    (only_slots world_members ss refl)
+    (only_slots (codes "name" ∷ codes "imports" ∷ codes "exports" ∷ codes "includes" ∷ codes "docs" ∷ codes "stability" ∷ codes "package" ∷ codes "span" ∷ []) ss refl)
     (reads_required read_text (codes "name") j (json_of_text w.name) w.name (get_slot (codes "name") ss) refl)
-    (reads_required read_entries (codes "imports") j (json_of_entries w.imports) (bare_entries w.imports) (get_slot (codes "imports") ss) (reads_bare_entries w.imports fits.imports))
-    (reads_required read_entries (codes "exports") j (json_of_entries w.exports) (bare_entries w.exports) (get_slot (codes "exports") ss) (reads_bare_entries w.exports fits.exports))
+    (reads_required read_entries (codes "imports") j (object_by entry_name json_of_item w.imports) (bare_entries w.imports) (get_slot (codes "imports") ss) (reads_bare_entries w.imports fits.imports))
+    (reads_required read_entries (codes "exports") j (object_by entry_name json_of_item w.exports) (bare_entries w.exports) (get_slot (codes "exports") ss) (reads_bare_entries w.exports fits.exports))
     (reads_no_includes j (get_slot (codes "includes") ss))
     (reads_docs w.docs j (get_slot (codes "docs") ss))
     (reads_stability w.stability j fits.gate (get_slot (codes "stability") ss))
@@ -169,7 +169,7 @@ reads_placed_world w fits placed =
 -- it includes nothing
 includes_nothing : (world : World) → get (codes "includes") (json_of_world world) ≡ None
 includes_nothing w =
-    get_slot (codes "includes") ((codes "name", Some (json_of_text w.name)) ∷ (codes "imports", Some (json_of_entries w.imports)) ∷ (codes "exports", Some (json_of_entries w.exports))
+    get_slot (codes "includes") ((codes "name", Some (json_of_text w.name)) ∷ (codes "imports", Some (object_by entry_name json_of_item w.imports)) ∷ (codes "exports", Some (object_by entry_name json_of_item w.exports))
     ∷ (codes "package", Some (null_or json_of_number w.«package»)) ∷ (codes "docs", json_of_docs w.docs) ∷ (codes "stability", json_of_stability w.stability) ∷ [])
 
 pub reads_bare_world : (world : World) → IsWritableWorld world → IfSome world.«package» IsWritableId
@@ -218,5 +218,5 @@ reads_homes_from done n (home ∷ homes) many distinct =
     (one_home home done new ∙ ap (λ (m : ℕ). Ok (done ++ (home.name, m) ∷ [])) many)
     (reads_homes_from (done ++ (home.name, n) ∷ []) (suc n) homes (length-push done (home.name, n) ∙ ap suc many) (subst (λ (all : Homes). HasDistinctKeys all) (sym longer) distinct) ∙ ap Ok longer)
 
-pub reads_homes : (homes : List Package) → HasDistinctKeys (in_order 0 homes) → homes_of homes ≡ Ok (in_order 0 homes)
+pub reads_homes : (homes : List Package) → HasDistinctKeys (in_order 0 homes) → homes_from [] homes ≡ Ok (in_order 0 homes)
 reads_homes homes distinct = reads_homes_from [] 0 homes refl distinct

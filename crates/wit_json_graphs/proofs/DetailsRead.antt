@@ -1,7 +1,8 @@
 -- Details complete what has none.
-use Rattle.std.proofs.Common.{◌≡◌, ◌∙◌, ℕ, suc, Bool, true, List, [], ◌∷◌, ◌++◌, map, Option, Some, None, Ok, refl, sym, ap, codes, if◌then◌else◌, bytes_eq}
-use Rattle.std.specs.Option.{option_map}
+use Rattle.std.proofs.Common.{◌≡◌, ◌∙◌, ℕ, suc, true, List, [], ◌∷◌, ◌++◌, map, Option, Some, None, Ok, refl, sym, ap, codes, bytes_eq, Bool, if◌then◌else◌}
+use Rattle.wit_data.specs.declared.stability.Stability.{Stability}
 use Rattle.std.specs.Prelude.{IfSome}
+use Rattle.std.specs.Option.{option_map}
 use Rattle.std.proofs.lemmas.Slice.Eq.{bytes_eq-Decides}
 use Rattle.json.specs.Json.{Json}
 use Rattle.json.specs.Value.{items_of}
@@ -10,7 +11,6 @@ use Rattle.wit_data.specs.declared.function.Function.{Function}
 use Rattle.wit_data.specs.declared.function.Param.{Param}
 use Rattle.wit_data.specs.declared.interface.Interface.{Interface}
 use Rattle.wit_data.specs.declared.stability.Docs.{Docs}
-use Rattle.wit_data.specs.declared.stability.Stability.{Stability}
 use Rattle.wit_data.specs.declared.types.Case.{Case}
 use Rattle.wit_data.specs.declared.types.EnumCase.{EnumCase}
 use Rattle.wit_data.specs.declared.types.Field.{Field}
@@ -22,23 +22,22 @@ use Rattle.wit_data.specs.declared.world.World.{World}
 use Rattle.wit_data.specs.declared.world.WorldItem.{WorldItem}
 use Rattle.wit_data.specs.declared.world.WorldItem.TheVariants as item
 use Rattle.wit_data.specs.declared.world.WorldKey.{WorldKey}
-use Rattle.wit_json.specs.Details.{entries_details, external_id_member, function_details, interface_details, item_details, json_of_range, json_of_span, parts_member, span_member, type_details, world_details}
-use Rattle.wit_json.specs.Gates.{json_of_docs}
+use Rattle.wit_json.specs.Details.{external_id_member, function_details, interface_details, item_details, json_of_range, json_of_span, parts_member, span_member, type_details, world_details}
 use Rattle.wit_json.specs.Values as written
-use Rattle.wit_json.specs.Values.{Member, json_of_text, members_of, object, object_under_names, optional}
+use Rattle.wit_json.specs.Values.{Member, json_of_text, members_of, object, object_under_names, optional, object_by}
 use Rattle.wit_json.specs.Worlds.{entry_name}
-use Rattle.wit_json_graphs.specs.Details.{case_with, entries_with, entry_with, enum_case_with, field_with, flag_with, function_with_details, interface_with, item_with, items_with, kind_with, list_with, named_with, param_with, span_alone, table_with, things_with, type_with_details, world_with}
+use Rattle.wit_json_graphs.specs.Details.{entries_with, entry_with, function_with_details, interface_with, item_with, kind_with, list_with, span_alone, table_with, things_with, type_with_details, world_with, with_span}
 use Rattle.wit_json_graphs.specs.Writable.{AreWritableEntries, IsWritableCase, IsWritableField, IsWritableFunction, IsWritableInterface, IsWritableItem, IsWritableKind, IsWritableParam, IsWritableSpan, IsWritableTypeDef, IsWritableWorld}
 use Rattle.wit_json_reading.specs.Gates.{read_place, read_span}
-use Rattle.wit_json_reading.specs.Reading.{Reading, ◌>>=◌, instead_of, only, under}
+use Rattle.wit_json_reading.specs.Reading.{Reading, ◌>>=◌, only, under, instead_of}
 use Rattle.wit_json_reading.specs.Values.{read_text}
-use Rattle.wit_json_reading.specs.declared.fault.Expected.TheVariants as expected
 use Rattle.wit_json_reading.specs.declared.fault.Step.TheVariants as step
 use Rattle.wit_json_graphs.proofs.Bare.{at_value, bare_case, bare_enum_case, bare_field, bare_flag, bare_function, bare_kind, bare_param, bare_type, no_more}
 use Rattle.wit_json_graphs.proofs.BareThings.{bare_entries, bare_functions, bare_interface, bare_item, bare_world}
-use Rattle.wit_json_graphs.proofs.Slots.{Slot, get_slot, only_slots, slots}
+use Rattle.wit_json_graphs.proofs.Slots.{Slot, get_slot, only_slots, slots, json_of_docs}
 use Rattle.wit_json_graphs.proofs.Small.{reads_docs, reads_span, reads_span_member, reads_texts}
-use Rattle.wit_json_graphs.proofs.Steps.{all_1, all_2, all_3, all_4, reads_optional, reads_required, followed}
+use Rattle.wit_json_graphs.proofs.Steps.{all_1, all_3, all_4, reads_optional, reads_required, followed, all_2}
+use Rattle.wit_json_reading.specs.declared.fault.Expected.TheVariants as expected
 
 -- ---- lists and tables
 
@@ -66,20 +65,31 @@ module _ {K A : Type 0} (name : K → List ℕ) (f : A → Json → Reading A) (
 
 -- ---- types
 
+abbrev field_with : Field → Json → Reading Field
+field_with = with_span (λ (f : Field) span. record f { span = span })
+
+abbrev flag_with : Flag → Json → Reading Flag
+flag_with = with_span (λ (f : Flag) span. record f { span = span })
+
+abbrev case_with : Case → Json → Reading Case
+case_with = with_span (λ (c : Case) span. record c { span = span })
+
+abbrev enum_case_with : EnumCase → Json → Reading EnumCase
+enum_case_with = with_span (λ (c : EnumCase) span. record c { span = span })
+
+abbrev param_with : Param → Json → Reading Param
+param_with = with_span (λ (p : Param) span. record p { span = span })
+
 field_complete : (f : Field) → IsWritableField f → field_with (bare_field f) (json_of_span f.span) ≡ Ok f
-unfolding field_with
 field_complete f fits = followed (read_place (json_of_span f.span)) _ f.span (Ok f) (reads_span f.span fits.1) refl
 
 flag_complete : (f : Flag) → IsWritableSpan f.span → flag_with (bare_flag f) (json_of_span f.span) ≡ Ok f
-unfolding flag_with
 flag_complete f fits = followed (read_place (json_of_span f.span)) _ f.span (Ok f) (reads_span f.span fits) refl
 
 case_complete : (c : Case) → IsWritableCase c → case_with (bare_case c) (json_of_span c.span) ≡ Ok c
-unfolding case_with
 case_complete c fits = followed (read_place (json_of_span c.span)) _ c.span (Ok c) (reads_span c.span fits.1) refl
 
 enum_case_complete : (c : EnumCase) → IsWritableSpan c.span → enum_case_with (bare_enum_case c) (json_of_span c.span) ≡ Ok c
-unfolding enum_case_with
 enum_case_complete c fits = followed (read_place (json_of_span c.span)) _ c.span (Ok c) (reads_span c.span fits) refl
 
 -- the parts of a type that has some
@@ -179,7 +189,6 @@ type_complete def fits =
 -- ---- functions and interfaces
 
 param_complete : (p : Param) → IsWritableParam p → param_with (bare_param p) (json_of_span p.span) ≡ Ok p
-unfolding param_with
 param_complete p fits = followed (read_place (json_of_span p.span)) _ p.span (Ok p) (reads_span p.span fits.1) refl
 
 pub function_complete : (f : Function) → IsWritableFunction f → function_with_details (bare_function f) (function_details f) ≡ Ok f
@@ -205,7 +214,7 @@ interface_complete i fits =
     all_3 (λ (_ : Unit {0}) (span : Option (ℕ × ℕ)) (functions : List (List ℕ × Function)). let it : Interface = record i { span = span; functions = functions } in it)
     (only_slots (codes "span" ∷ codes "functions" ∷ []) ss refl)
     (reads_span_member i.span j fits.span (get_slot (codes "span") ss))
-    (reads_required (named_with function_with_details (bare_functions i.functions)) (codes "functions") j (object_under_names function_details i.functions) i.functions (get_slot (codes "functions") ss)
+    (reads_required (table_with (λ (name : List ℕ). name) function_with_details (bare_functions i.functions)) (codes "functions") j (object_under_names function_details i.functions) i.functions (get_slot (codes "functions") ss)
     (entries_complete (λ (name : List ℕ). name) function_with_details bare_function function_details i.functions (λ n e at. function_complete e.1 (fits.functions n e at))))
 
 -- ---- worlds
@@ -236,7 +245,7 @@ item_complete (item.Interface id stability docs span external_id) fits =
 item_complete (item.Function f) fits = all_1 (λ (g : Function). item.Function g) (function_complete f fits)
 item_complete (item.Type_ id span) fits = all_1 (λ (s : Option (ℕ × ℕ)). item.Type_ id s) (span_complete span fits.1)
 
-items_complete : (es : List (WorldKey × WorldItem)) → AreWritableEntries es → items_with (bare_entries es) (entries_details es) ≡ Ok es
+items_complete : (es : List (WorldKey × WorldItem)) → AreWritableEntries es → table_with entry_name item_with (bare_entries es) (object_by entry_name item_details es) ≡ Ok es
 items_complete es fits = entries_complete entry_name item_with bare_item item_details es (λ i e at. item_complete e.1 (fits.items i e at))
 
 -- a world that includes nothing
@@ -250,14 +259,14 @@ complete_alone : (world : World) → IsWritableWorld world → world_with (bare_
 unfolding world_with
 complete_alone w fits =
     let ss : List Slot =
-    (codes "span", option_map json_of_range w.span) ∷ (codes "imports", Some (entries_details w.imports)) ∷ (codes "exports", Some (entries_details w.exports)) ∷ [] in
+    (codes "span", option_map json_of_range w.span) ∷ (codes "imports", Some (object_by entry_name item_details w.imports)) ∷ (codes "exports", Some (object_by entry_name item_details w.exports)) ∷ [] in
     let j = slots ss in
     all_4 (λ (_ : Unit {0}) (span : Option (ℕ × ℕ)) (imports exports : List (WorldKey × WorldItem)).
     let it : World = record (without_includes w) { span = span; imports = imports; exports = exports } in it)
     (only_slots (codes "span" ∷ codes "imports" ∷ codes "exports" ∷ []) ss refl)
     (reads_span_member w.span j fits.span (get_slot (codes "span") ss))
-    (reads_required (items_with (bare_entries w.imports)) (codes "imports") j (entries_details w.imports) w.imports (get_slot (codes "imports") ss) (items_complete w.imports fits.imports))
-    (reads_required (items_with (bare_entries w.exports)) (codes "exports") j (entries_details w.exports) w.exports (get_slot (codes "exports") ss) (items_complete w.exports fits.exports))
+    (reads_required (table_with entry_name item_with (bare_entries w.imports)) (codes "imports") j (object_by entry_name item_details w.imports) w.imports (get_slot (codes "imports") ss) (items_complete w.imports fits.imports))
+    (reads_required (table_with entry_name item_with (bare_entries w.exports)) (codes "exports") j (object_by entry_name item_details w.exports) w.exports (get_slot (codes "exports") ss) (items_complete w.exports fits.exports))
 
 pub world_complete : (world : World) → IsWritableWorld world → world.includes ≡ [] → world_with (bare_world world) (world_details world) ≡ Ok world
 world_complete world fits none = complete_alone world fits ∙ ap Ok (includes_none world none)

@@ -10,27 +10,27 @@ use Rattle.wit_data.specs.declared.stability.Stability.{Stability}
 use Rattle.wit_data.specs.declared.types.Type_.{Type_}
 use Rattle.wit_json.specs.Details.{json_of_range}
 use Rattle.wit_json.specs.Functions.{json_of_function_kind}
-use Rattle.wit_json.specs.Gates.{json_of_docs, json_of_stability}
+use Rattle.wit_json.specs.Gates.{json_of_stability}
 use Rattle.wit_json.specs.Types.{json_of_type}
 use Rattle.wit_json.specs.Unresolved.{whole_function, whole_param}
 use Rattle.wit_json.specs.Values as written
 use Rattle.wit_json.specs.Values.{json_of_number, json_of_text, tagged}
 use Rattle.wit_json_graphs.specs.Writable.{IsWritableFunction, IsWritableFunctionKind, IsWritableId, IsWritableParam}
-use Rattle.wit_json_reading.specs.Functions.{read_function_kind_by, read_function_kind, function_members, read_function, read_param, read_resource_kind}
-use Rattle.wit_json_reading.specs.Reading.{read_list}
+use Rattle.wit_json_reading.specs.Functions.{read_function_kind, read_function, read_param, read_resource_kind}
+use Rattle.wit_json_reading.specs.Reading.{read_list, ◌>>=◌}
 use Rattle.wit_json_reading.specs.Types.{read_type}
 use Rattle.wit_json_reading.specs.Values.{read_number, read_text}
 use Rattle.wit_json_reading.specs.declared.fault.Expected.TheVariants as expected
-use Rattle.wit_json_graphs.proofs.Slots.{Slot, get_slot, only_slots, slots}
+use Rattle.wit_json_graphs.proofs.Slots.{Slot, get_slot, only_slots, slots, json_of_docs}
 use Rattle.wit_json_graphs.proofs.Small.{reads_docs, reads_number, reads_span_member, reads_stability, reads_texts}
 use Rattle.wit_json_graphs.proofs.Steps.{all_4, all_9, reads_list, reads_optional, reads_required, reads_variant, followed}
 use Rattle.wit_json_graphs.proofs.Types.{reads_type, reads_types}
 
 -- the kind of a resource's function
 of_resource : (name : List ℕ) (id : ℕ) (k : FunctionKind) → IsWritableId id → read_resource_kind name id ≡ Ok k → read_function_kind (tagged name (json_of_number id)) ≡ Ok k
-unfolding read_function_kind read_function_kind_by
+unfolding read_function_kind
 of_resource name id k fits named =
-    reads_variant read_function_kind_by expected.FunctionKind name (json_of_number id) k (followed (read_number (json_of_number id)) (λ it. read_resource_kind name it) id (Ok k) (reads_number id fits) named)
+    reads_variant (λ name it. read_number it >>= λ id. read_resource_kind name id) expected.FunctionKind name (json_of_number id) k (followed (read_number (json_of_number id)) (λ it. read_resource_kind name it) id (Ok k) (reads_number id fits) named)
 
 reads_function_kind : (k : FunctionKind) → IsWritableFunctionKind k → read_function_kind (json_of_function_kind k) ≡ Ok k
 unfolding read_function_kind
@@ -69,7 +69,7 @@ reads_function f fits =
     let j = slots ss in
     all_9 (λ (_ : Unit {0}) (name : List ℕ) (kind : FunctionKind) (params : List Param) (result : Option Type_) (docs : Docs) (stability : Stability) (span : Option (ℕ × ℕ)) (external_id : Option (List ℕ)).
     let it : Function = record { name = name; kind = kind; params = params; result_ = result; docs = docs; stability = stability; span = span; external_id = external_id } in it)
-    (only_slots function_members ss refl)
+    (only_slots (codes "name" ∷ codes "kind" ∷ codes "params" ∷ codes "result" ∷ codes "docs" ∷ codes "stability" ∷ codes "span" ∷ codes "external-id" ∷ []) ss refl)
     (reads_required read_text (codes "name") j (json_of_text f.name) f.name (get_slot (codes "name") ss) refl)
     (reads_required read_function_kind (codes "kind") j (json_of_function_kind f.kind) f.kind (get_slot (codes "kind") ss) (reads_function_kind f.kind fits.kind))
     (reads_required (read_list read_param) (codes "params") j (written.list_of whole_param f.params) f.params (get_slot (codes "params") ss)

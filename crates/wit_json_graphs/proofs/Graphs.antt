@@ -1,5 +1,6 @@
 -- A graph with what stands beside it reads back.
-use Rattle.std.proofs.Common.{◌≡◌, ◌∙◌, ℕ, zero, suc, Bool, true, false, cond, ◌||◌, List, [], ◌∷◌, ◌++◌, length, map, Option, Some, None, Ok, refl, sym, ap, subst, codes, slice_get, if◌then◌else◌, bytes_eq, append-nil, append_assoc, arith}
+use Rattle.std.proofs.Common.{◌≡◌, ◌∙◌, ℕ, suc, Bool, true, false, ◌||◌, List, [], ◌∷◌, ◌++◌, length, map, Some, Ok, refl, sym, ap, subst, codes, slice_get, if◌then◌else◌, bytes_eq, append-nil, append_assoc, arith, fold, zero, cond, Option, None}
+use Rattle.wit_data.specs.Each.{Each}
 use Rattle.std.proofs.lemmas.Option.{slice_get_within}
 use Rattle.std.proofs.lemmas.Slice.Eq.{bytes_eq-Decides}
 use Rattle.std.specs.List.{list_any}
@@ -8,7 +9,6 @@ use Rattle.json.specs.Json.{Json}
 use Rattle.json.specs.Json as json
 use Rattle.wit_values.specs.Table.{HasDistinctKeys}
 use Rattle.wit_values.specs.facts.Lists.{slice_get-behind, slice_get-append}
-use Rattle.wit_data.specs.Each.{Each}
 use Rattle.wit_data.specs.declared.interface.Interface.{Interface}
 use Rattle.wit_data.specs.declared.types.TypeDef.{TypeDef}
 use Rattle.wit_data.specs.declared.world.World.{World}
@@ -27,14 +27,14 @@ use Rattle.wit_json.specs.Values.{json_of_text}
 use Rattle.wit_json.specs.Whole.{json_of_features, json_of_rule, json_of_sources}
 use Rattle.wit_json.specs.Worlds.{json_of_interface, json_of_world}
 use Rattle.wit_json_graphs.specs.Details.{graph_with, interface_with, list_with, type_with_details, world_with}
-use Rattle.wit_json_graphs.specs.Resolves.{features_beside, no_features, read_resolve, rule_beside, sources_beside, with_details}
+use Rattle.wit_json_graphs.specs.Resolves.{read_resolve}
 use Rattle.wit_json_graphs.specs.declared.resolves.ResolveParts.{ResolveParts}
 use Rattle.wit_json_graphs.specs.Writable.{AreApart, AreWritableSources, IsWritableGraph}
 use Rattle.wit_json_graphs.specs.laws.ReadBack.{ResolvesReadBack}
-use Rattle.wit_json_reading.specs.Features.{read_features, read_names, read_rule, names_with_one, names_with}
-use Rattle.wit_json_reading.specs.Graphs.{read_graph, read_graph_package, homes_of}
+use Rattle.wit_json_reading.specs.Features.{read_features, read_names, read_rule, names_with}
+use Rattle.wit_json_reading.specs.Graphs.{homes_from, read_graph, read_graph_package}
 use Rattle.wit_json_reading.specs.Groups.{read_sources}
-use Rattle.wit_json_reading.specs.Reading.{Reading, ◌>>=◌, read_list, only, read_optional, read_required, under, read_leaving_out}
+use Rattle.wit_json_reading.specs.Reading.{read_or, Reading, ◌>>=◌, read_list, only, read_optional, read_required, under, read_leaving_out}
 use Rattle.wit_json_reading.specs.Types.{read_type_def}
 use Rattle.wit_json_reading.specs.Values.{read_boolean, read_text}
 use Rattle.wit_json_reading.specs.Worlds.{read_interface, read_world}
@@ -52,7 +52,7 @@ use Rattle.wit_json_graphs.proofs.Steps.{all_3, all_4, reads_list, reads_list_as
 abbrev bare_graph : Graph → Graph
 bare_graph g = record g { types = map bare_type g.types; interfaces = map bare_interface g.interfaces; worlds = map bare_world g.worlds }
 
-names_there : (g : Graph) → IsWritableGraph g → homes_of g.packages ≡ Ok g.package_names
+names_there : (g : Graph) → IsWritableGraph g → homes_from [] g.packages ≡ Ok g.package_names
 names_there g fits =
     reads_homes g.packages (subst (λ (names : List (PackageName × ℕ)). HasDistinctKeys names) fits.named fits.names_differ) ∙ ap Ok (sym fits.named)
 
@@ -61,7 +61,7 @@ graph_by worlds interfaces types packages names = record { types = types; interf
 
 -- what is read behind the packages, behind the types, and so on
 abbrev behind_packages : List World → List Interface → List TypeDef → List Package → Reading Graph
-behind_packages worlds interfaces types packages = under (step.Member (codes "packages")) (homes_of packages) >>= λ names. Ok (graph_by worlds interfaces types packages names)
+behind_packages worlds interfaces types packages = under (step.Member (codes "packages")) (homes_from [] packages) >>= λ names. Ok (graph_by worlds interfaces types packages names)
 
 abbrev behind_types : Json → List World → List Interface → List TypeDef → Reading Graph
 behind_types j worlds interfaces types = read_required (read_list read_graph_package) (codes "packages") j >>= λ packages. behind_packages worlds interfaces types packages
@@ -99,7 +99,7 @@ reads_bare_graph g fits =
     (followed (read_required (read_list read_graph_package) (codes "packages") j) (behind_packages ws is ts) g.packages (Ok (bare_graph g))
     (reads_required (read_list read_graph_package) (codes "packages") j (written.list_of json_of_package g.packages) g.packages (get_slot (codes "packages") ss)
     (reads_list read_graph_package json_of_package g.packages (λ i p at. reads_home_package p (fits.packages i p at))))
-    (followed (under (step.Member (codes "packages")) (homes_of g.packages)) (λ names. Ok (graph_by ws is ts g.packages names)) g.package_names (Ok (bare_graph g))
+    (followed (under (step.Member (codes "packages")) (homes_from [] g.packages)) (λ names. Ok (graph_by ws is ts g.packages names)) g.package_names (Ok (bare_graph g))
     (ap (under (step.Member (codes "packages"))) (names_there g fits)) refl)))))
 
 graph_complete : (g : Graph) → IsWritableGraph g → graph_with (bare_graph g) (graph_details g) ≡ Ok g
@@ -132,20 +132,20 @@ none_same (d ∷ done) name none = neither (bytes_eq name d) (list_any (bytes_eq
     other true same = absurd (none 0 (ap Some (sym ((bytes_eq-Decides name d).0 same))))
     other false differs = refl
 
-reads_names : (done names : List (List ℕ)) → AreApart (done ++ names) → names_with done names ≡ done ++ names
+reads_names : (done names : List (List ℕ)) → AreApart (done ++ names) → fold names_with done names ≡ done ++ names
 reads_names done [] apart = sym (append-nil done)
 reads_names done (name ∷ names) apart =
     let new : list_any (bytes_eq name) done ≡ false =
     none_same done name (λ i at. let within = slice_get_within done i name at in
     let same = apart i (length done) name (slice_get-append done (name ∷ names) i name at) (slice_get-behind done names name) in omega (arith, within, same)) in
     let longer : (done ++ name ∷ []) ++ names ≡ done ++ name ∷ names = append_assoc done (name ∷ []) names in
-    ap (λ (b : Bool). names_with (if b then done else done ++ name ∷ []) names) new
+    ap (λ (b : Bool). fold names_with (if b then done else done ++ name ∷ []) names) new
     ∙ reads_names (done ++ name ∷ []) names (subst (λ (all : List (List ℕ)). AreApart all) (sym longer) apart) ∙ longer
 
 reads_name_set : (names : List (List ℕ)) → AreApart names → read_names (written.list_of json_of_text names) ≡ Ok names
 unfolding read_names
 reads_name_set names apart =
-    followed (read_list read_text (written.list_of json_of_text names)) (λ texts. Ok (names_with [] texts)) names (Ok names) (reads_list read_text json_of_text names (λ i name at. refl))
+    followed (read_list read_text (written.list_of json_of_text names)) (λ texts. Ok (fold names_with [] texts)) names (Ok names) (reads_list read_text json_of_text names (λ i name at. refl))
     (ap Ok (reads_names [] names apart))
 
 reads_features : (features : Features) → AreApart features.names → read_features (json_of_features features) ≡ Ok features
@@ -165,19 +165,26 @@ reads_rule WithPrereleases = refl
 
 -- ---- what stands beside a graph
 
-features_there : (features : Features) (j : Json) → AreApart features.names → get (codes "features") j ≡ Some (json_of_features features) → features_beside j ≡ Ok features
-unfolding features_beside
+details_there : (g : Graph) (j : Json) → IsWritableGraph g → get (codes "details") j ≡ Some (graph_details g)
+    → read_or (graph_with (bare_graph g)) (bare_graph g) (codes "details") j ≡ Ok g
+unfolding read_or
+details_there g j fits there =
+    followed (read_optional (graph_with (bare_graph g)) (codes "details") j) _ (Some g) (Ok g)
+    (reads_optional (graph_with (bare_graph g)) graph_details (codes "details") j (Some g) there (graph_complete g fits)) refl
+
+features_there : (features : Features) (j : Json) → AreApart features.names → get (codes "features") j ≡ Some (json_of_features features) → read_or read_features (record { names = []; all = false }) (codes "features") j ≡ Ok features
+unfolding read_or
 features_there features j apart there =
     followed (read_optional read_features (codes "features") j) _ (Some features) (Ok features)
     (reads_optional read_features json_of_features (codes "features") j (Some features) there (reads_features features apart)) refl
 
-rule_there : (rule : TrackRule) (j : Json) → get (codes "track-rule") j ≡ Some (json_of_rule rule) → rule_beside j ≡ Ok rule
-unfolding rule_beside
+rule_there : (rule : TrackRule) (j : Json) → get (codes "track-rule") j ≡ Some (json_of_rule rule) → read_or read_rule Published (codes "track-rule") j ≡ Ok rule
+unfolding read_or
 rule_there rule j there =
     followed (read_optional read_rule (codes "track-rule") j) _ (Some rule) (Ok rule) (reads_optional read_rule json_of_rule (codes "track-rule") j (Some rule) there (reads_rule rule)) refl
 
-sources_there : (sources : Sources) (j : Json) → AreWritableSources sources → get (codes "sources") j ≡ Some (json_of_sources sources) → sources_beside j ≡ Ok sources
-unfolding sources_beside
+sources_there : (sources : Sources) (j : Json) → AreWritableSources sources → get (codes "sources") j ≡ Some (json_of_sources sources) → read_or read_sources (record { files = []; end = 0 }) (codes "sources") j ≡ Ok sources
+unfolding read_or
 sources_there sources j fits there =
     followed (read_optional read_sources (codes "sources") j) _ (Some sources) (Ok sources)
     (reads_optional read_sources json_of_sources (codes "sources") j (Some sources) there (reads_sources sources fits)) refl
@@ -188,7 +195,9 @@ parts_by graph features rule sources = record { graph = graph; features = featur
 -- what is read behind the graph, and behind the names
 abbrev behind_graph : Json → Graph → Reading ResolveParts
 behind_graph j graph =
-    with_details graph (get (codes "details") j) >>= λ whole. features_beside j >>= λ features. rule_beside j >>= λ rule. sources_beside j >>= λ sources. Ok (parts_by whole features rule sources)
+    read_or (graph_with graph) graph (codes "details") j >>= λ whole. read_or read_features (record { names = []; all = false }) (codes "features") j
+    >>= λ features. read_or read_rule Published (codes "track-rule") j >>= λ rule. read_or read_sources (record { files = []; end = 0 }) (codes "sources") j
+    >>= λ sources. Ok (parts_by whole features rule sources)
 
 abbrev behind_all : Json → Reading ResolveParts
 behind_all j = read_required read_graph (codes "graph") j >>= λ graph. behind_graph j graph
@@ -206,7 +215,7 @@ resolves_read_back parts fits =
     (followed (read_required read_graph (codes "graph") j) (behind_graph j) (bare_graph g) (Ok parts)
     (reads_required read_graph (codes "graph") j (json_of_graph g) (bare_graph g) (get_slot (codes "graph") ss) (reads_bare_graph g fits.graph))
     (all_4 parts_by
-    (ap (with_details (bare_graph g)) (get_slot (codes "details") ss) ∙ ap (under (step.Member (codes "details"))) (graph_complete g fits.graph))
+    (details_there g j fits.graph (get_slot (codes "details") ss))
     (features_there parts.features j fits.features (get_slot (codes "features") ss))
     (rule_there parts.track_rule j (get_slot (codes "track-rule") ss))
     (sources_there parts.source_map j fits.sources (get_slot (codes "sources") ss))))

@@ -52,7 +52,7 @@ neither false b h = (refl, h)
 -- a name without a mark is read as it is
 unmarked : (name : List ℕ) (it : WorldItem) → starts_with nat_eq name (codes "%") ≡ false → read_key name it ≡ plain_key name it
 unmarked name it none =
-    ap (λ (b : Bool). option_map_or key.Name (if b then Some (drop 1 name) else None) (plain_key name it)) none
+    ap (λ (b : Bool). if b then key.Name (drop 1 name) else plain_key name it) none
 
 -- a label that is like no key isn't the name of one
 other_label : (label : List ℕ) (id : ℕ) → id < 2 ^ 64 → is_like_key label ≡ false → bytes_eq label (codes "interface-" ++ decimal id) ≡ false

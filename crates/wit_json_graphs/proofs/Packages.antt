@@ -25,16 +25,15 @@ use Rattle.wit_data.specs.declared.unresolved.AstItem.TheVariants as ast
 use Rattle.wit_data.specs.declared.unresolved.UnresolvedPackage.{UnresolvedPackage}
 use Rattle.wit_data.specs.declared.world.World.{World}
 use Rattle.wit_json.specs.Details.{json_of_range, json_of_span}
-use Rattle.wit_json.specs.Gates.{json_of_docs}
 use Rattle.wit_json.specs.Graph.{json_of_package_name}
-use Rattle.wit_json.specs.Unresolved.{json_of_ast_item, json_of_deps, json_of_foreign_item, json_of_gate, whole_interface, whole_type, whole_world}
+use Rattle.wit_json.specs.Unresolved.{json_of_ast_item, json_of_foreign_item, json_of_gate, whole_interface, whole_type, whole_world}
 use Rattle.wit_json.specs.Values as written
-use Rattle.wit_json.specs.Values.{json_of_number, members_of, object_under_names, pair, tagged}
+use Rattle.wit_json.specs.Values.{json_of_number, members_of, object_under_names, pair, object_by, tagged}
 use Rattle.wit_json_graphs.specs.Writable.{AreWritableItems, IsWritableAstItem, IsWritableGate, IsWritableName}
 use Rattle.wit_json_graphs.specs.laws.ReadBack.{PackagesReadBack}
 use Rattle.wit_json_reading.specs.Gates.{read_any_gate, read_place}
-use Rattle.wit_json_reading.specs.Objects.{read_pair}
-use Rattle.wit_json_reading.specs.Packages.{read_ast_item_by, read_ast_item, read_dep, deps_from, read_deps, read_foreign_item, name_in, package_name_in, read_package_name, package_members, read_package, version_behind}
+use Rattle.wit_json_reading.specs.Objects.{read_pair, read_variant}
+use Rattle.wit_json_reading.specs.Packages.{read_ast_item_by, read_dep, deps_from, read_deps, read_foreign_item, name_in, read_package_name, read_package, version_behind}
 use Rattle.wit_json_reading.specs.Reading.{◌>>=◌, instead_of, read_list, under, read_leaving_out}
 use Rattle.wit_json_reading.specs.Tables.{read_named}
 use Rattle.wit_json_reading.specs.Types.{read_type_def}
@@ -42,11 +41,12 @@ use Rattle.wit_json_reading.specs.Values.{read_number, version_in}
 use Rattle.wit_json_reading.specs.Worlds.{read_interface, read_world}
 use Rattle.wit_json_reading.specs.declared.fault.Expected.TheVariants as expected
 use Rattle.wit_json_reading.specs.declared.fault.Step.TheVariants as step
-use Rattle.wit_json_graphs.proofs.Slots.{Slot, get_slot, only_slots, slots}
+use Rattle.wit_json_graphs.proofs.Slots.{Slot, get_slot, only_slots, slots, json_of_docs}
 use Rattle.wit_json_graphs.proofs.Small.{reads_docs, reads_gate, reads_number, reads_span, reads_span_member}
 use Rattle.wit_json_graphs.proofs.Steps.{all_11, is_new, reads_list, reads_named, reads_pair, reads_required, reads_variant, followed}
 use Rattle.wit_json_graphs.proofs.Types.{reads_type_def}
 use Rattle.wit_json_graphs.proofs.Worlds.{reads_interface, reads_world}
+use Rattle.json.specs.Json as json
 
 -- ---- texts in two parts
 
@@ -126,8 +126,8 @@ reads_name_in namespace own version none valid =
     followed (version_behind (own ++ version_suffix version)) _ version (Ok (a_name namespace own version)) (reads_behind own version none valid)
     (ap (λ (it : List ℕ). Ok (a_name namespace it version)) (own_part own version none))
 
-pub reads_package_name : (name : PackageName) → IsWritableName name → package_name_in (package_name_text name) ≡ Ok name
-unfolding package_name_in
+pub reads_package_name : (name : PackageName) → IsWritableName name → read_package_name (json.string (package_name_text name)) ≡ Ok name
+unfolding read_package_name
 reads_package_name name fits =
     let rest = name.name ++ version_suffix name.version in
     let text = name.namespace ++ 58 ∷ rest in
@@ -141,8 +141,7 @@ reads_name_value name fits = reads_package_name name fits
 
 -- ---- what is named of other packages
 
-reads_ast_item : (it : AstItem) → IsWritableAstItem it → read_ast_item (json_of_ast_item it) ≡ Ok it
-unfolding read_ast_item
+reads_ast_item : (it : AstItem) → IsWritableAstItem it → read_variant read_ast_item_by expected.ForeignItem (json_of_ast_item it) ≡ Ok it
 reads_ast_item (ast.Interface id) fits =
     reads_variant read_ast_item_by expected.ForeignItem (codes "interface") (json_of_number id) (ast.Interface id)
     (followed (read_number (json_of_number id)) _ id (Ok (ast.Interface id)) (reads_number id fits) refl)
@@ -151,7 +150,7 @@ reads_ast_item (ast.World id) fits =
 
 reads_foreign_item : (named : AstItem × List Stability) → IsWritableAstItem named.0 → Each IsWritableGate named.1 → read_foreign_item (json_of_foreign_item named) ≡ Ok named
 reads_foreign_item named fits gates =
-    reads_pair read_ast_item (read_list read_any_gate) (json_of_ast_item named.0) (written.list_of json_of_gate named.1) named.0 named.1 (reads_ast_item named.0 fits)
+    reads_pair (read_variant read_ast_item_by expected.ForeignItem) (read_list read_any_gate) (json_of_ast_item named.0) (written.list_of json_of_gate named.1) named.0 named.1 (reads_ast_item named.0 fits)
     (reads_list read_any_gate json_of_gate named.1 (λ i gate at. reads_gate gate (gates i gate at)))
 
 reads_foreign_items : (items : List ForeignItem) → AreWritableItems items → read_named read_foreign_item (object_under_names json_of_foreign_item items) ≡ Ok items
@@ -168,7 +167,7 @@ one_dep : (e : Dep) (before : List Dep) → IsWritableName e.0 → AreWritableIt
     → read_dep (package_name_text e.0) (object_under_names json_of_foreign_item e.1) before ≡ Ok (before ++ e ∷ [])
 one_dep e before name items new =
     let text = package_name_text e.0 in
-    followed (under (step.Member text) (package_name_in text)) _ e.0 (Ok (before ++ e ∷ [])) (ap (under (step.Member text)) (reads_package_name e.0 name))
+    followed (under (step.Member text) (read_package_name (json.string text))) _ e.0 (Ok (before ++ e ∷ [])) (ap (under (step.Member text)) (reads_package_name e.0 name))
     (followed (under (step.Member text) (read_named read_foreign_item (object_under_names json_of_foreign_item e.1))) _ e.1 (Ok (before ++ e ∷ []))
     (ap (under (step.Member text)) (reads_foreign_items e.1 items))
     (ap (λ (b : Bool). if b then under (step.Member text) (instead_of expected.NoSecondMember) else Ok (before ++ e ∷ [])) new))
@@ -182,7 +181,7 @@ reads_deps_from before (e ∷ es) distinct names items =
     followed (read_dep (package_name_text e.0) (object_under_names json_of_foreign_item e.1) before) _ (before ++ e ∷ []) (Ok (before ++ e ∷ es)) (one_dep e before (names 0 e refl) (items 0 e refl) new)
     (reads_deps_from (before ++ e ∷ []) es (subst (λ (all : List Dep). HasDistinctKeys all) (sym longer) distinct) (λ i y at. names (suc i) y at) (λ i y at. items (suc i) y at) ∙ ap Ok longer)
 
-reads_deps : (es : List Dep) → HasDistinctKeys es → Each (λ (e : Dep). IsWritableName e.0) es → Each (λ (e : Dep). AreWritableItems e.1) es → read_deps (json_of_deps es) ≡ Ok es
+reads_deps : (es : List Dep) → HasDistinctKeys es → Each (λ (e : Dep). IsWritableName e.0) es → Each (λ (e : Dep). AreWritableItems e.1) es → read_deps (object_by package_name_text (object_under_names json_of_foreign_item) es) ≡ Ok es
 reads_deps es distinct names items = reads_deps_from [] es distinct names items
 
 -- ---- packages
@@ -196,7 +195,7 @@ packages_read_back p fits =
     let ss : List Slot =
     (codes "name", Some (json_of_package_name p.name)) ∷ (codes "span", option_map json_of_range p.package_name_span) ∷ (codes "docs", json_of_docs p.docs)
     ∷ (codes "worlds", Some (written.list_of whole_world p.worlds)) ∷ (codes "interfaces", Some (written.list_of whole_interface p.interfaces))
-    ∷ (codes "types", Some (written.list_of whole_type p.types)) ∷ (codes "foreign-deps", Some (json_of_deps p.foreign_deps))
+    ∷ (codes "types", Some (written.list_of whole_type p.types)) ∷ (codes "foreign-deps", Some (object_by package_name_text (object_under_names json_of_foreign_item) p.foreign_deps))
     ∷ (codes "foreign-dep-spans", Some (written.list_of json_of_span p.foreign_dep_spans)) ∷ (codes "unknown-type-spans", Some (written.list_of json_of_span p.unknown_type_spans))
     ∷ (codes "required-resources", Some (written.list_of resource p.required_resource_types)) ∷ [] in
     let j = slots ss in
@@ -215,7 +214,8 @@ packages_read_back p fits =
       required_resource_types = resources;
     } in
     it)
-    (only_slots package_members ss refl)
+    (only_slots (codes "name" ∷ codes "span" ∷ codes "docs" ∷ codes "worlds" ∷ codes "interfaces" ∷ codes "types" ∷ codes "foreign-deps" ∷ codes "foreign-dep-spans" ∷ codes "unknown-type-spans"
+    ∷ codes "required-resources" ∷ []) ss refl)
     (reads_required read_package_name (codes "name") j (json_of_package_name p.name) p.name (get_slot (codes "name") ss) (reads_name_value p.name fits.name))
     (reads_span_member p.package_name_span j fits.span (get_slot (codes "span") ss))
     (reads_docs p.docs j (get_slot (codes "docs") ss))
@@ -226,7 +226,7 @@ packages_read_back p fits =
     (reads_list (read_leaving_out (codes "package") read_interface) whole_interface p.interfaces (λ n i at. reads_interface i (fits.interfaces n i at) (fits.interfaces_alone n i at))))
     (reads_required (read_list read_type_def) (codes "types") j (written.list_of whole_type p.types) p.types (get_slot (codes "types") ss)
     (reads_list read_type_def whole_type p.types (λ i def at. reads_type_def def (fits.types i def at))))
-    (reads_required read_deps (codes "foreign-deps") j (json_of_deps p.foreign_deps) p.foreign_deps (get_slot (codes "foreign-deps") ss)
+    (reads_required read_deps (codes "foreign-deps") j (object_by package_name_text (object_under_names json_of_foreign_item) p.foreign_deps) p.foreign_deps (get_slot (codes "foreign-deps") ss)
     (reads_deps p.foreign_deps fits.packages_differ fits.packages fits.items))
     (reads_required (read_list read_place) (codes "foreign-dep-spans") j (written.list_of json_of_span p.foreign_dep_spans) p.foreign_dep_spans (get_slot (codes "foreign-dep-spans") ss)
     (reads_list read_place json_of_span p.foreign_dep_spans (λ i span at. reads_span span (fits.dep_spans i span at))))

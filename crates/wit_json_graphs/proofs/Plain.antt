@@ -1,8 +1,11 @@
 -- What is written is a text of JSON: its numbers are numbers, and it nests less than a reader allows.
 use Rattle.std.proofs.Common.{◌∙◌, ℕ, suc, ◌<◌, ◌≤◌, ◌^◌, List, [], ◌∷◌, ◌++◌, map, Option, Some, None, refl, sym, subst, ap, codes, arith}
-use Rattle.std.specs.Option.{option_map}
+use Rattle.wit_names.specs.PackageName.{package_name_text}
+use Rattle.wit_json.specs.Worlds.{entry_name}
+use Rattle.wit_json_reading.specs.Reading.{instead_of}
+use Rattle.std.specs.Option.{option_map, option_map_or}
 use Rattle.std.specs.Prelude.{IfSome, ⊤}
-use Rattle.json.specs.Json.{Json, Members, document, max_depth}
+use Rattle.json.specs.Json.{Json, document, Members, max_depth}
 use Rattle.json.specs.Json as json
 use Rattle.json.specs.Tree.{HasNumbers, ItemsHaveNumbers, MembersHaveNumbers, depth, items_depth, members_depth}
 use Rattle.json.specs.Value.{items_of}
@@ -45,13 +48,13 @@ use Rattle.wit_data.specs.declared.world.WorldItem.TheVariants as item
 use Rattle.wit_data.specs.declared.world.WorldKey.{WorldKey}
 use Rattle.wit_json.specs.Details.{json_of_range, json_of_span}
 use Rattle.wit_json.specs.Functions.{json_of_function_kind}
-use Rattle.wit_json.specs.Gates.{json_of_docs, json_of_stability}
+use Rattle.wit_json.specs.Gates.{json_of_stability}
 use Rattle.wit_json.specs.Graph.{compact, json_of_package_name}
 use Rattle.wit_json.specs.Groups.{json_of_group}
 use Rattle.wit_json.specs.Types.{json_of_handle, json_of_owner, json_of_result, json_of_type}
-use Rattle.wit_json.specs.Unresolved.{json_of_ast_item, json_of_deps, json_of_foreign_item, json_of_gate, json_of_include, json_of_include_name, json_of_unresolved, whole_case, whole_entries, whole_enum_case, whole_field, whole_flag, whole_function, whole_interface, whole_item, whole_kind, whole_param, whole_type, whole_world}
+use Rattle.wit_json.specs.Unresolved.{json_of_ast_item, json_of_foreign_item, json_of_gate, json_of_include, json_of_include_name, json_of_unresolved, whole_case, whole_enum_case, whole_field, whole_flag, whole_function, whole_interface, whole_item, whole_kind, whole_param, whole_type, whole_world}
 use Rattle.wit_json.specs.Values as written
-use Rattle.wit_json.specs.Values.{Member, json_of_number, json_of_text, json_of_version, members_of, null_or, object, object_under_names, optional, pair, tagged}
+use Rattle.wit_json.specs.Values.{Member, json_of_number, json_of_text, json_of_version, members_of, null_or, object, object_under_names, optional, pair, tagged, object_by}
 use Rattle.wit_json_graphs.specs.Writable.{AreWritableEntries, AreWritableItems, IsWritableAstItem, IsWritableCase, IsWritableField, IsWritableFunction, IsWritableFunctionKind, IsWritableGroup, IsWritableHandle, IsWritableInclude, IsWritableInterface, IsWritableItem, IsWritableKind, IsWritableOwner, IsWritablePackage, IsWritableParam, IsWritableSpan, IsWritableType, IsWritableTypeDef, IsWritableWorld}
 use Rattle.wit_json.specs.Whole.{json_of_file, json_of_sources}
 use Rattle.wit_json_graphs.specs.laws.ReadBack.{GroupTextsReadBack, TextsReadBack}
@@ -61,7 +64,8 @@ use Rattle.wit_json_reading.specs.Groups.{read_group}
 use Rattle.wit_json_reading.specs.Packages.{read_package}
 use Rattle.wit_json_graphs.proofs.Packages.{packages_read_back}
 use Rattle.wit_json_graphs.proofs.Sources.{groups_read_back}
-use Rattle.wit_json_graphs.proofs.Slots.{Slot, joined, members_are, slots}
+use Rattle.wit_json_graphs.proofs.Slots.{Slot, joined, members_are, slots, json_of_docs}
+use Rattle.wit_json_reading.specs.declared.fault.Expected.TheVariants as expected
 
 -- numbers are numbers, and arrays and objects nest no deeper than d
 record IsPlain (d : ℕ) (j : Json) : Type 0 where
@@ -372,7 +376,7 @@ plain_item (item.Interface id stability docs_ span external_id) fits =
 plain_item (item.Function f) fits = plain_tagged 5 (codes "function") (whole_function f) (plain_function f fits)
 plain_item (item.Type_ id span) fits = plain_type_entry id span fits.0 fits.1
 
-plain_world_entries : (es : List (WorldKey × WorldItem)) → AreWritableEntries es → IsPlain 7 (whole_entries es)
+plain_world_entries : (es : List (WorldKey × WorldItem)) → AreWritableEntries es → IsPlain 7 (object_by entry_name whole_item es)
 plain_world_entries es fits = plain_table 6 _ es (λ i e at. plain_item e.1 (fits.items i e at))
 
 plain_include_name : (name : IncludeName) → IsPlain 5 (json_of_include_name name)
@@ -388,7 +392,7 @@ plain_include i fits =
 plain_world : (world : World) → IsWritableWorld world → IsPlain 9 (whole_world world)
 plain_world w fits =
     plain_slots 8
-    ((codes "name", Some (json_of_text w.name)) ∷ (codes "imports", Some (whole_entries w.imports)) ∷ (codes "exports", Some (whole_entries w.exports))
+    ((codes "name", Some (json_of_text w.name)) ∷ (codes "imports", Some (object_by entry_name whole_item w.imports)) ∷ (codes "exports", Some (object_by entry_name whole_item w.exports))
     ∷ (codes "includes", Some (written.list_of json_of_include w.includes)) ∷ (codes "docs", json_of_docs w.docs) ∷ (codes "stability", json_of_stability w.stability)
     ∷ (codes "span", option_map json_of_range w.span) ∷ []) (
       plain_text 8 w.name,
@@ -411,7 +415,7 @@ plain_foreign_item : (named : AstItem × List Stability) → IsWritableAstItem n
 plain_foreign_item named fits =
     plain_pair 5 (json_of_ast_item named.0) (written.list_of json_of_gate named.1) (plain_ast_item named.0 fits) (plain_list 4 json_of_gate named.1 (λ i gate at. gate_or_null 2 gate))
 
-plain_deps : (es : List (PackageName × List ForeignItem)) → Each (λ (e : PackageName × List ForeignItem). AreWritableItems e.1) es → IsPlain 8 (json_of_deps es)
+plain_deps : (es : List (PackageName × List ForeignItem)) → Each (λ (e : PackageName × List ForeignItem). AreWritableItems e.1) es → IsPlain 8 (object_by package_name_text (object_under_names json_of_foreign_item) es)
 plain_deps es fits = plain_table 7 _ es (λ i e at. plain_table 6 _ e.1 (λ n it there. plain_foreign_item it.1 ((fits i e at).items n it there)))
 
 -- ---- packages
@@ -424,7 +428,7 @@ plain_unresolved p fits =
     plain_slots 10
     ((codes "name", Some (json_of_package_name p.name)) ∷ (codes "span", option_map json_of_range p.package_name_span) ∷ (codes "docs", json_of_docs p.docs)
     ∷ (codes "worlds", Some (written.list_of whole_world p.worlds)) ∷ (codes "interfaces", Some (written.list_of whole_interface p.interfaces))
-    ∷ (codes "types", Some (written.list_of whole_type p.types)) ∷ (codes "foreign-deps", Some (json_of_deps p.foreign_deps))
+    ∷ (codes "types", Some (written.list_of whole_type p.types)) ∷ (codes "foreign-deps", Some (object_by package_name_text (object_under_names json_of_foreign_item) p.foreign_deps))
     ∷ (codes "foreign-dep-spans", Some (written.list_of json_of_span p.foreign_dep_spans)) ∷ (codes "unknown-type-spans", Some (written.list_of json_of_span p.unknown_type_spans))
     ∷ (codes "required-resources", Some (written.list_of resource p.required_resource_types)) ∷ []) (
       plain_text 10 _,

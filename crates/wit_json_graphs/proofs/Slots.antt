@@ -1,10 +1,11 @@
 -- Objects whose members have names of their own, each of which is there or left out.
-use Rattle.std.proofs.Common.{◌≡◌, ◌∙◌, ℕ, Bool, true, false, cond, not, ◌&&◌, ◌||◌, List, [], ◌∷◌, ◌++◌, Option, Some, None, Ok, refl, sym, ap, bytes_eq, if◌then◌else◌, append-nil, append_assoc}
+use Rattle.std.proofs.Common.{◌≡◌, ◌∙◌, ℕ, Bool, true, false, cond, not, ◌&&◌, ◌||◌, List, [], ◌∷◌, ◌++◌, Option, Some, None, Ok, refl, sym, ap, bytes_eq, if◌then◌else◌, append-nil, append_assoc, option_map, codes}
+use Rattle.wit_data.specs.declared.stability.Docs.{Docs}
 use Rattle.std.specs.List.{list_any}
 use Rattle.json.specs.Find.{get, get_member, later_or}
 use Rattle.json.specs.Json.{Json, Members}
 use Rattle.json.specs.Json as json
-use Rattle.wit_json.specs.Values.{Member, members_of, object, optional}
+use Rattle.wit_json.specs.Values.{Member, members_of, object, optional, tagged, json_of_text}
 use Rattle.wit_json_reading.specs.Reading.{names_from, only}
 
 -- a name, and the value where the member is there
@@ -22,6 +23,10 @@ slot_members (s ∷ ss) = more_members (optional s.0 s.1) ss
 
 abbrev pub slots : List Slot → Json
 slots ss = object (slot_members ss)
+
+-- what docs are written as, where there are some
+abbrev pub json_of_docs : Docs → Option Json
+json_of_docs docs = option_map (λ text. tagged (codes "contents") (json_of_text text)) docs.contents
 
 -- the same, from the first on
 abbrev pub joined : List Slot → List Member

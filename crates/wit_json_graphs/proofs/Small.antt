@@ -1,7 +1,8 @@
 -- Numbers, versions, spans, docs and gates read back.
 use Rattle.std.proofs.Common.{◌≡◌, ◌∙◌, ℕ, ◌+◌, ◌-◌, ◌*◌, ◌/◌, ◌%◌, ◌<◌, ◌≤◌, ◌^◌, Bool, true, false, List, [], ◌∷◌, ◌++◌, Option, Some, None, Ok, refl, ap, codes, decimal, if◌then◌else◌, nat_le, nat_lt, arith}
+use Rattle.wit_json_reading.proofs.Digits.{number_below}
 use Rattle.std.specs.Char.{is_ascii_digit}
-use Rattle.std.specs.Option.{option_map}
+use Rattle.std.specs.Option.{option_map, option_map_or}
 use Rattle.std.specs.Prelude.{IfSome}
 use Rattle.std.proofs.lemmas.Fmt.{decimal_by_steps}
 use Rattle.json.specs.Find.{get}
@@ -14,15 +15,15 @@ use Rattle.wit_data.specs.declared.stability.Docs.{Docs}
 use Rattle.wit_data.specs.declared.stability.Stability.{Stability}
 use Rattle.wit_data.specs.declared.stability.Stability.TheVariants.{Unknown, Stable, Unstable}
 use Rattle.wit_json.specs.Details.{json_of_range, json_of_span}
-use Rattle.wit_json.specs.Gates.{json_of_docs, json_of_stability}
+use Rattle.wit_json.specs.Gates.{json_of_stability}
 use Rattle.wit_json.specs.Unresolved.{json_of_gate}
 use Rattle.wit_json.specs.Values.{json_of_number, json_of_text, json_of_version, pair, tagged}
 use Rattle.wit_json_graphs.specs.Writable.{IsWritableGate, IsWritableSpan}
 use Rattle.wit_json_reading.specs.Gates.{read_contents, read_docs, read_any_gate, read_gate_by, read_place, read_range, read_span, read_stability, read_stable, read_unstable}
-use Rattle.wit_json_reading.specs.Reading.{instead_of, read_optional}
-use Rattle.wit_json_reading.specs.Values.{decimal_after, decimal_of, number_below, read_number, or_number, read_small_number, read_text, version_in, read_version}
+use Rattle.wit_json_reading.specs.Reading.{instead_of, read_optional, read_or}
+use Rattle.wit_json_reading.specs.Values.{decimal_after, decimal_of, read_number, read_small_number, read_text, version_in, read_version}
 use Rattle.wit_json_reading.specs.declared.fault.Expected.TheVariants as expected
-use Rattle.wit_json_graphs.proofs.Slots.{Slot, get_slot, only_slots, slots}
+use Rattle.wit_json_graphs.proofs.Slots.{Slot, get_slot, only_slots, slots, json_of_docs}
 use Rattle.wit_json_graphs.proofs.Steps.{all_1, all_3, reads_alone, reads_optional, reads_pair, reads_required, reads_variant, followed}
 
 -- ---- numbers
@@ -59,7 +60,7 @@ is_below n limit small = grind arith
 
 pub reads_number : (n : ℕ) → n < 2 ^ 64 → read_number (json_of_number n) ≡ Ok n
 unfolding decimal_of
-reads_number n fits = ap or_number (ap (number_below (2 ^ 64)) (number_read n fits) ∙ ap (λ (b : Bool). if b then Some n else None) (is_below n (2 ^ 64) fits))
+reads_number n fits = ap (λ it. option_map_or (λ n. Ok n) it (instead_of expected.Number)) (ap (number_below (2 ^ 64)) (number_read n fits) ∙ ap (λ (b : Bool). if b then Some n else None) (is_below n (2 ^ 64) fits))
 
 pub reads_small : (n : ℕ) → n < 2 ^ 32 → read_small_number (json_of_number n) ≡ Ok n
 unfolding read_small_number
@@ -103,7 +104,7 @@ reads_ranges (Some range) fits = reads_range range.0 range.1 fits.0 fits.1
 
 -- the span of an item, which may be left out
 pub reads_span_member : (span : Option (ℕ × ℕ)) (j : Json) → IsWritableSpan span → get (codes "span") j ≡ option_map json_of_range span → read_span j ≡ Ok span
-unfolding read_span read_place
+unfolding read_span read_place read_or
 reads_span_member None j fits there =
     followed (read_optional read_place (codes "span") j) _ None (Ok None) (reads_optional read_place json_of_span (codes "span") j None there tt) refl
 reads_span_member (Some range) j fits there =
@@ -121,7 +122,7 @@ reads_contents text =
     all_1 (λ (text : List ℕ). docs_from (Some text)) (reads_alone read_text (codes "contents") (json_of_text text) text refl refl refl)
 
 reads_docs_from : (contents : Option (List ℕ)) (j : Json) → get (codes "docs") j ≡ json_of_docs (docs_from contents) → read_docs j ≡ Ok (docs_from contents)
-unfolding read_docs
+unfolding read_docs read_or
 reads_docs_from None j there =
     followed (read_optional read_contents (codes "docs") j) _ None (Ok (docs_from None)) (reads_optional read_contents (λ (d : Docs). json.null) (codes "docs") j None there tt) refl
 reads_docs_from (Some text) j there =
@@ -167,7 +168,7 @@ reads_gate (Unstable feature deprecated) fits = reads_variant read_gate_by expec
 
 -- the gate of an item, which may be left out
 pub reads_stability : (gate : Stability) (j : Json) → IsWritableGate gate → get (codes "stability") j ≡ json_of_stability gate → read_stability j ≡ Ok gate
-unfolding read_stability
+unfolding read_stability read_or
 reads_stability Unknown j fits there =
     followed (read_optional read_any_gate (codes "stability") j) _ None (Ok Unknown) (reads_optional read_any_gate json_of_gate (codes "stability") j None there tt) refl
 reads_stability (Stable since deprecated) j fits there =

@@ -1,20 +1,20 @@
 -- Files, and groups of packages with theirs, read back.
 use Rattle.std.proofs.Common.{◌≡◌, ◌∙◌, ℕ, ◌+◌, ◌<◌, ◌≤◌, ◌^◌, Bool, true, List, [], ◌∷◌, ◌++◌, length, map, Some, Ok, refl, sym, ap, codes, nat_lt, if◌then◌else◌, append-nil, append_assoc, arith}
+use Rattle.wit_json.specs.Groups.{json_of_group}
 use Rattle.json.specs.Value.{items_of}
 use Rattle.wit_sources.specs.SourceMap.{Sources, end_after, files_of, with_file}
 use Rattle.wit_sources.specs.declared.source_map.SourceFile.{SourceFile}
 use Rattle.wit_data.specs.declared.unresolved.UnresolvedPackage.{UnresolvedPackage}
 use Rattle.wit_data.specs.declared.unresolved.UnresolvedPackageGroup.{UnresolvedPackageGroup}
-use Rattle.wit_json.specs.Groups.{json_of_group}
 use Rattle.wit_json.specs.Unresolved.{json_of_unresolved}
 use Rattle.wit_json.specs.Values as written
 use Rattle.wit_json.specs.Values.{json_of_text}
 use Rattle.wit_json.specs.Whole.{json_of_file, json_of_sources}
 use Rattle.wit_json_graphs.specs.Writable.{AreInRow, AreWritableSources, IsWritableGroup}
 use Rattle.wit_json_graphs.specs.laws.ReadBack.{GroupsReadBack}
-use Rattle.wit_json_reading.specs.Groups.{read_group, no_sources, source_behind, read_source, sources_from, read_sources, with_source}
+use Rattle.wit_json_reading.specs.Groups.{read_group, read_source, sources_from, read_sources, with_source}
 use Rattle.wit_json_reading.specs.Packages.{read_package}
-use Rattle.wit_json_reading.specs.Reading.{Reading, instead_of, read_list, under}
+use Rattle.wit_json_reading.specs.Reading.{instead_of, read_list, under, ◌>>=◌, Reading}
 use Rattle.wit_json_reading.specs.Values.{read_text}
 use Rattle.wit_json_reading.specs.declared.fault.Expected.TheVariants as expected
 use Rattle.wit_json_reading.specs.declared.fault.Step.TheVariants as step
@@ -44,7 +44,7 @@ abbrev at_end : List SourceFile → ℕ → Sources
 at_end files end = record { files = files; end = end }
 
 one_file : (done : List SourceFile) (from : ℕ) (file : SourceFile) → file.start ≡ from → end_after from file.contents < 2 ^ 32
-    → source_behind (at_end done from) (json_of_file (file.path, file.contents)) ≡ Ok (at_end (done ++ file ∷ []) (end_after from file.contents))
+    → (read_source (json_of_file (file.path, file.contents)) >>= with_source (at_end done from)) ≡ Ok (at_end (done ++ file ∷ []) (end_after from file.contents))
 one_file done from file starts fits =
     let below : nat_lt (end_after from file.contents) (2 ^ 32) ≡ true = is_below (end_after from file.contents) (2 ^ 32) fits in
     followed (read_source (json_of_file (file.path, file.contents))) (with_source (at_end done from)) (file.path, file.contents)
@@ -57,7 +57,7 @@ reads_files : (done : List SourceFile) (from : ℕ) (files : List SourceFile) (e
 reads_files done from [] end row fits = ap (λ (e : ℕ). Ok (at_end done e)) (sym row) ∙ ap (λ (fs : List SourceFile). Ok (at_end fs end)) (sym (append-nil done))
 reads_files done from (file ∷ files) end row fits =
     let within : end_after from file.contents ≤ end = in_row_within (end_after from file.contents) files end row.1 in
-    followed (under (step.Item (length done)) (source_behind (at_end done from) (json_of_file (file.path, file.contents)))) _ (at_end (done ++ file ∷ []) (end_after from file.contents))
+    followed (under (step.Item (length done)) (read_source (json_of_file (file.path, file.contents)) >>= with_source (at_end done from))) _ (at_end (done ++ file ∷ []) (end_after from file.contents))
     (Ok (at_end (done ++ file ∷ files) end))
     (ap (under (step.Item (length done))) (one_file done from file row.0 (omega (arith, within, fits))))
     (reads_files (done ++ file ∷ []) (end_after from file.contents) files end row.1 fits

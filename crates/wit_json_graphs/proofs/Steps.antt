@@ -2,7 +2,7 @@
 use Rattle.std.proofs.Common.{◌≡◌, ◌∙◌, ℕ, suc, Bool, true, false, cond, List, [], ◌∷◌, ◌++◌, map, length, Option, Some, None, Ok, refl, sym, ap, subst, bytes_eq, append_assoc, slice_get, arith, append-nil, if◌then◌else◌}
 use Rattle.std.proofs.lemmas.Option.{slice_get_within}
 use Rattle.std.proofs.lemmas.Slice.Eq.{bytes_eq-Decides}
-use Rattle.std.specs.Option.{option_map}
+use Rattle.std.specs.Option.{option_map, option_map_or}
 use Rattle.std.specs.Prelude.{IfSome, is_some}
 use Rattle.std.specs.Map.{lookup}
 use Rattle.json.specs.Find.{get}
@@ -14,7 +14,7 @@ use Rattle.wit_data.specs.Each.{Each}
 use Rattle.wit_json.specs.Values.{members_of, object_under_names, pair, tagged}
 use Rattle.wit_json.specs.Values as written
 use Rattle.wit_json_reading.specs.Objects.{alone, read_pair, read_variant}
-use Rattle.wit_json_reading.specs.Reading.{Reading, ◌>>=◌, has_to_be_there, if_there, instead_of, items_from, read_list, only, read_optional, read_required, under, read_leaving_out}
+use Rattle.wit_json_reading.specs.Reading.{Reading, ◌>>=◌, instead_of, items_from, read_list, only, read_optional, read_required, under, read_leaving_out}
 use Rattle.wit_json_reading.specs.Tables.{named_from, read_named}
 use Rattle.wit_json_reading.specs.declared.fault.Expected.{Expected}
 use Rattle.wit_json_reading.specs.declared.fault.Expected.TheVariants as expected
@@ -84,15 +84,15 @@ all_11 {m0 = m0} {m1 = m1} {m2 = m2} {m3 = m3} {m4 = m4} {m5 = m5} {m6 = m6} {m7
 
 module _ {A : Type 0} where
   pub reads_required : (f : Json → Reading A) (name : List ℕ) (j v : Json) (x : A) → get name j ≡ Some v → f v ≡ Ok x → read_required f name j ≡ Ok x
-  reads_required f name j v x there reads = ap (has_to_be_there f name) there ∙ ap (under (step.Member name)) reads
+  reads_required f name j v x there reads = ap (λ it. under (step.Member name) (option_map_or f it (instead_of expected.Member))) there ∙ ap (under (step.Member name)) reads
 
-  reads_there : (f : Json → Reading A) (w : A → Json) (name : List ℕ) (o : Option A) → IfSome o (λ x. f (w x) ≡ Ok x) → if_there f name (option_map w o) ≡ Ok o
+  reads_there : (f : Json → Reading A) (w : A → Json) (name : List ℕ) (o : Option A) → IfSome o (λ x. f (w x) ≡ Ok x) → option_map_or (λ it. under (step.Member name) (f it) >>= λ x. Ok (Some x)) (option_map w o) (Ok None) ≡ Ok o
   reads_there f w name None reads = refl
   reads_there f w name (Some x) reads = ap (λ (r : Reading A). under (step.Member name) r >>= λ y. Ok (Some y)) reads
 
   pub reads_optional : (f : Json → Reading A) (w : A → Json) (name : List ℕ) (j : Json) (o : Option A) → get name j ≡ option_map w o → IfSome o (λ x. f (w x) ≡ Ok x)
       → read_optional f name j ≡ Ok o
-  reads_optional f w name j o there reads = ap (if_there f name) there ∙ reads_there f w name o reads
+  reads_optional f w name j o there reads = ap (λ it. option_map_or (λ it. under (step.Member name) (f it) >>= λ x. Ok (Some x)) it (Ok None)) there ∙ reads_there f w name o reads
 
   pub reads_alone : (f : Json → Reading A) (name : List ℕ) (j : Json) (x : A) → only (name ∷ []) (tagged name j) ≡ Ok tt → get name (tagged name j) ≡ Some j → f j ≡ Ok x
       → alone f name (tagged name j) ≡ Ok x

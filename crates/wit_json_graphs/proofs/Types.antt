@@ -1,5 +1,6 @@
 -- Types read back.
 use Rattle.std.proofs.Common.{◌≡◌, ℕ, List, [], ◌∷◌, Option, Some, None, Ok, refl, ap, codes, ◌∙◌}
+use Rattle.wit_json_reading.specs.Objects.{read_variant}
 use Rattle.std.specs.Option.{option_map}
 use Rattle.std.specs.Prelude.{IfSome}
 use Rattle.json.specs.Json.{Json}
@@ -19,17 +20,17 @@ use Rattle.wit_data.specs.declared.types.TypeOwner.TheVariants as owner
 use Rattle.wit_data.specs.declared.types.Type_.{Type_}
 use Rattle.wit_data.specs.declared.types.Type_.TheVariants as type
 use Rattle.wit_json.specs.Details.{json_of_range}
-use Rattle.wit_json.specs.Gates.{json_of_docs, json_of_stability}
+use Rattle.wit_json.specs.Gates.{json_of_stability}
 use Rattle.wit_json.specs.Types.{json_of_handle, json_of_owner, json_of_result, json_of_type}
 use Rattle.wit_json.specs.Unresolved.{whole_case, whole_enum_case, whole_field, whole_flag, whole_kind, whole_type}
 use Rattle.wit_json.specs.Values as written
 use Rattle.wit_json.specs.Values.{json_of_number, json_of_text, null_or, pair, tagged}
 use Rattle.wit_json_graphs.specs.Writable.{IsWritableCase, IsWritableField, IsWritableHandle, IsWritableKind, IsWritableOwner, IsWritableSpan, IsWritableType, IsWritableTypeDef}
 use Rattle.wit_json_reading.specs.Reading.{◌>>=◌, read_list}
-use Rattle.wit_json_reading.specs.Types.{by_id, read_case, read_enum_case, read_field, read_fixed_length_list, read_flag, read_handle_by, read_handle, read_kind_by, read_kind, read_map, read_owner_by, read_owner, read_result, read_type_def, type_members, read_type}
+use Rattle.wit_json_reading.specs.Types.{by_id, read_case, read_enum_case, read_field, read_flag, read_handle_by, read_kind_by, read_kind, read_owner_by, read_owner, read_result, read_type_def, read_type}
 use Rattle.wit_json_reading.specs.Values.{nullable, read_number, read_small_number, read_text}
 use Rattle.wit_json_reading.specs.declared.fault.Expected.TheVariants as expected
-use Rattle.wit_json_graphs.proofs.Slots.{Slot, get_slot, only_slots, slots}
+use Rattle.wit_json_graphs.proofs.Slots.{Slot, get_slot, only_slots, slots, json_of_docs}
 use Rattle.wit_json_graphs.proofs.Small.{reads_docs, reads_number, reads_small, reads_span_member, reads_stability, reads_texts}
 use Rattle.wit_json_graphs.proofs.Steps.{all_1, all_3, all_4, all_5, all_8, reads_alone, reads_list, reads_optional, reads_pair, reads_required, reads_variant, followed}
 
@@ -133,8 +134,7 @@ reads_enum_case c fits =
     (reads_docs c.docs j (get_slot (codes "docs") ss))
     (reads_span_member c.span j fits (get_slot (codes "span") ss))
 
-reads_handle : (handle : Handle) → IsWritableHandle handle → read_handle (json_of_handle handle) ≡ Ok handle
-unfolding read_handle
+reads_handle : (handle : Handle) → IsWritableHandle handle → read_variant read_handle_by expected.Handle (json_of_handle handle) ≡ Ok handle
 reads_handle (Own id) fits =
     reads_variant read_handle_by expected.Handle (codes "own") (json_of_number id) (Own id) (followed (read_number (json_of_number id)) _ id (Ok (Own id)) (reads_number id fits) refl)
 reads_handle (Borrow id) fits =
@@ -166,7 +166,7 @@ unfolding read_kind
 reads_kind_by name j k reads = reads_variant read_kind_by expected.TypeKind name j k reads
 
 pub reads_kind : (k : TypeDefKind) → IsWritableKind k → read_kind (whole_kind k) ≡ Ok k
-unfolding read_kind read_kind_by read_map read_fixed_length_list
+unfolding read_kind read_kind_by
 reads_kind (kind.Record fields) fits =
     let j : Json = written.list_of whole_field fields in
     reads_kind_by (codes "record") (tagged (codes "fields") j) (kind.Record fields)
@@ -217,7 +217,7 @@ reads_type_def def fits =
     let j = slots ss in
     all_8 (λ (_ : Unit {0}) (name : Option (List ℕ)) (k : TypeDefKind) (o : TypeOwner) (docs : Docs) (stability : Stability) (span : Option (ℕ × ℕ)) (external_id : Option (List ℕ)).
     let it : TypeDef = record { name = name; kind = k; owner = o; docs = docs; stability = stability; span = span; external_id = external_id } in it)
-    (only_slots type_members ss refl)
+    (only_slots (codes "name" ∷ codes "kind" ∷ codes "owner" ∷ codes "docs" ∷ codes "stability" ∷ codes "span" ∷ codes "external-id" ∷ []) ss refl)
     (reads_required (nullable read_text) (codes "name") j (null_or json_of_text def.name) def.name (get_slot (codes "name") ss) (reads_name def.name))
     (reads_required read_kind (codes "kind") j (whole_kind def.kind) def.kind (get_slot (codes "kind") ss) (reads_kind def.kind fits.kind))
     (reads_required read_owner (codes "owner") j (json_of_owner def.owner) def.owner (get_slot (codes "owner") ss) (reads_owner def.owner fits.owner))

@@ -1,5 +1,6 @@
 -- Interfaces and worlds read back.
 use Rattle.std.proofs.Common.{◌≡◌, ◌∙◌, ℕ, suc, Bool, false, List, [], ◌∷◌, ◌++◌, map, Option, Some, None, Ok, refl, sym, ap, subst, codes, if◌then◌else◌, append-nil, append_assoc}
+use Rattle.wit_json_reading.specs.Objects.{read_variant}
 use Rattle.std.specs.Map.{lookup}
 use Rattle.std.specs.Option.{option_map}
 use Rattle.std.specs.Prelude.{IfSome, is_some}
@@ -18,32 +19,32 @@ use Rattle.wit_data.specs.declared.world.WorldInclude.{WorldInclude}
 use Rattle.wit_data.specs.declared.world.WorldItem.{WorldItem}
 use Rattle.wit_data.specs.declared.world.WorldItem.TheVariants as item
 use Rattle.wit_data.specs.declared.world.WorldKey.{WorldKey}
-use Rattle.wit_data.specs.declared.world.WorldKey.TheVariants as key
 use Rattle.wit_json.specs.Details.{json_of_range}
-use Rattle.wit_json.specs.Gates.{json_of_docs, json_of_stability}
-use Rattle.wit_json.specs.Unresolved.{json_of_include, json_of_include_name, whole_entries, whole_function, whole_interface, whole_interface_entry, whole_item, whole_type_entry, whole_world}
+use Rattle.wit_json.specs.Gates.{json_of_stability}
+use Rattle.wit_json.specs.Unresolved.{json_of_include, json_of_include_name, whole_function, whole_interface, whole_interface_entry, whole_item, whole_type_entry, whole_world}
 use Rattle.wit_json.specs.Values as written
-use Rattle.wit_json.specs.Values.{json_of_number, json_of_text, members_of, null_or, object_under_names}
+use Rattle.wit_json.specs.Values.{json_of_number, json_of_text, members_of, null_or, object_under_names, object_by}
 use Rattle.wit_json.specs.Worlds.{entry_name}
 use Rattle.wit_json_graphs.specs.Writable.{AreWritableEntries, FitsKey, IsWritableGate, IsWritableId, IsWritableInclude, IsWritableInterface, IsWritableItem, IsWritableSpan, IsWritableWorld}
 use Rattle.wit_json_reading.specs.Functions.{read_function}
-use Rattle.wit_json_reading.specs.Reading.{instead_of, read_list, read_optional, under, read_leaving_out}
+use Rattle.wit_json_reading.specs.Reading.{instead_of, read_list, read_optional, under, read_leaving_out, read_or, ◌>>=◌}
 use Rattle.wit_json_reading.specs.Tables.{read_named}
 use Rattle.wit_json_reading.specs.Values.{nullable, read_number, read_text}
-use Rattle.wit_json_reading.specs.Worlds.{entries_from, read_entries, read_home, read_include_name, read_include, read_includes, read_interface_entry, interface_members, read_interface, read_item_by, read_item, read_key, names_differ, read_placed_type, with_entry, with_member, world_members, read_world}
+use Rattle.wit_json_reading.specs.Worlds.{entries_from, read_entries, read_include_name, read_include, read_interface_entry, read_interface, read_item_by, read_key, names_differ, read_placed_type, with_entry, read_world}
 use Rattle.wit_json_reading.specs.declared.fault.Expected.TheVariants as expected
 use Rattle.wit_json_reading.specs.declared.fault.Step.TheVariants as step
 use Rattle.wit_json_graphs.proofs.Functions.{reads_function}
 use Rattle.wit_json_graphs.proofs.Keys.{reads_differ, reads_key, writable_key}
-use Rattle.wit_json_graphs.proofs.Slots.{Slot, get_slot, only_slots, slots}
+use Rattle.wit_json_graphs.proofs.Slots.{Slot, get_slot, only_slots, slots, json_of_docs}
 use Rattle.wit_json_graphs.proofs.Small.{reads_docs, reads_number, reads_span_member, reads_stability, reads_texts}
 use Rattle.wit_json_graphs.proofs.Steps.{all_3, all_5, all_6, all_8, all_9, is_new, reads_list, reads_named, reads_optional, reads_required, reads_variant, reads_without, followed}
 use Rattle.wit_json_graphs.proofs.Types.{reads_name}
+use Rattle.wit_data.specs.declared.world.WorldKey.TheVariants as key
 
 -- ---- the package that something belongs to
 
-reads_no_home : (j : Json) → get (codes "package") j ≡ None → read_home j ≡ Ok None
-unfolding read_home
+reads_no_home : (j : Json) → get (codes "package") j ≡ None → read_or (nullable read_number) None (codes "package") j ≡ Ok None
+unfolding read_or
 reads_no_home j there =
     followed (read_optional (nullable read_number) (codes "package") j) _ None (Ok None) (reads_optional (nullable read_number) (null_or json_of_number) (codes "package") j None there tt) refl
 
@@ -51,8 +52,8 @@ reads_home_or_null : (home : Option ℕ) → IfSome home IsWritableId → nullab
 reads_home_or_null None fits = refl
 reads_home_or_null (Some id) fits = followed (read_number (json_of_number id)) _ id (Ok (Some id)) (reads_number id fits) refl
 
-pub reads_home : (home : Option ℕ) (j : Json) → IfSome home IsWritableId → get (codes "package") j ≡ Some (null_or json_of_number home) → read_home j ≡ Ok home
-unfolding read_home
+pub reads_home : (home : Option ℕ) (j : Json) → IfSome home IsWritableId → get (codes "package") j ≡ Some (null_or json_of_number home) → read_or (nullable read_number) None (codes "package") j ≡ Ok home
+unfolding read_or
 reads_home home j fits there =
     followed (read_optional (nullable read_number) (codes "package") j) _ (Some home) (Ok home)
     (reads_optional (nullable read_number) (null_or json_of_number) (codes "package") j (Some home) there (reads_home_or_null home fits)) refl
@@ -77,7 +78,7 @@ reads_alone_interface i fits =
     all_8 (λ (_ : Unit {0}) (name : Option (List ℕ)) (types : List (List ℕ × ℕ)) (functions : List (List ℕ × Function)) (docs : Docs) (stability : Stability) (home : Option ℕ)
     (span : Option (ℕ × ℕ)).
     let it : Interface = record { name = name; types = types; functions = functions; docs = docs; stability = stability; «package» = home; span = span } in it)
-    (only_slots interface_members ss refl)
+    (only_slots (codes "name" ∷ codes "types" ∷ codes "functions" ∷ codes "docs" ∷ codes "stability" ∷ codes "package" ∷ codes "span" ∷ []) ss refl)
     (reads_required (nullable read_text) (codes "name") j (null_or json_of_text i.name) i.name (get_slot (codes "name") ss) (reads_name i.name))
     (reads_required (read_named read_number) (codes "types") j (object_under_names json_of_number i.types) i.types (get_slot (codes "types") ss)
     (reads_named read_number json_of_number i.types fits.types_differ (λ n e at. reads_number e.1 (fits.types n e at))))
@@ -129,8 +130,7 @@ reads_placed_type id range fits place =
     (reads_required read_number (codes "id") j (json_of_number id) id (get_slot (codes "id") ss) (reads_number id fits))
     (reads_span_member (Some range) j place (get_slot (codes "span") ss))
 
-reads_item : (it : WorldItem) → IsWritableItem it → read_item (whole_item it) ≡ Ok it
-unfolding read_item
+reads_item : (it : WorldItem) → IsWritableItem it → read_variant read_item_by expected.Entry (whole_item it) ≡ Ok it
 reads_item (item.Interface id stability docs span external_id) fits =
     reads_variant read_item_by expected.Entry (codes "interface") (whole_interface_entry id stability docs span external_id) (item.Interface id stability docs span external_id)
     (reads_interface_entry id stability docs span external_id fits.0 fits.1 fits.2)
@@ -156,13 +156,13 @@ reads_entries before (e ∷ es) distinct fit items =
     let new : is_some (lookup (same_key e.0) before) ≡ false = is_new (λ a b. (key_is a b).0) before es e distinct in
     let longer : (before ++ e ∷ []) ++ es ≡ before ++ e ∷ es = append_assoc before (e ∷ []) es in
     let named : read_key (entry_name e.0) e.1 ≡ e.0 = reads_key e.0 e.1 (fit 0 e refl) (items 0 e refl) in
-    followed (with_member (entry_name e.0) (whole_item e.1) before) (λ more. entries_from more (members_of (map member_of es))) (before ++ e ∷ []) (Ok (before ++ e ∷ es))
-    (followed (under (step.Member (entry_name e.0)) (read_item (whole_item e.1))) _ e.1 (Ok (before ++ e ∷ [])) (ap (under (step.Member (entry_name e.0))) (reads_item e.1 (items 0 e refl)))
+    followed (under (step.Member (entry_name e.0)) (read_variant read_item_by expected.Entry (whole_item e.1)) >>= λ entry. with_entry (entry_name e.0) entry before) (λ more. entries_from more (members_of (map member_of es))) (before ++ e ∷ []) (Ok (before ++ e ∷ es))
+    (followed (under (step.Member (entry_name e.0)) (read_variant read_item_by expected.Entry (whole_item e.1))) _ e.1 (Ok (before ++ e ∷ [])) (ap (under (step.Member (entry_name e.0))) (reads_item e.1 (items 0 e refl)))
     (one_entry (entry_name e.0) e.1 e.0 before named new))
     (reads_entries (before ++ e ∷ []) es (subst (λ (all : List (WorldKey × WorldItem)). HasDistinctKeys all) (sym longer) distinct) (λ i y at. fit (suc i) y at) (λ i y at. items (suc i) y at)
     ∙ ap Ok longer)
 
-pub reads_world_entries : (es : List (WorldKey × WorldItem)) → AreWritableEntries es → read_entries (whole_entries es) ≡ Ok es
+pub reads_world_entries : (es : List (WorldKey × WorldItem)) → AreWritableEntries es → read_entries (object_by entry_name whole_item es) ≡ Ok es
 reads_world_entries es fits =
     followed (names_differ [] (members_of (map member_of es))) (λ _. entries_from [] (members_of (map member_of es))) tt (Ok es)
     (reads_differ whole_item [] es fits.differ (λ i e at. writable_key e.0 e.1 (fits.fit i e at) (fits.items i e at)))
@@ -196,8 +196,8 @@ reads_include i fits =
     (reads_span_member i.span j fits.span (get_slot (codes "span") ss))
 
 reads_includes : (includes : List WorldInclude) (j : Json) → Each IsWritableInclude includes → get (codes "includes") j ≡ Some (written.list_of json_of_include includes)
-    → read_includes j ≡ Ok includes
-unfolding read_includes
+    → read_or (read_list read_include) [] (codes "includes") j ≡ Ok includes
+unfolding read_or
 reads_includes includes j fits there =
     followed (read_optional (read_list read_include) (codes "includes") j) _ (Some includes) (Ok includes)
     (reads_optional (read_list read_include) (written.list_of json_of_include) (codes "includes") j (Some includes) there
@@ -214,17 +214,17 @@ reads_alone_world : (world : World) → IsWritableWorld world → read_world (wh
 unfolding read_world
 reads_alone_world w fits =
     let ss : List Slot =
-    (codes "name", Some (json_of_text w.name)) ∷ (codes "imports", Some (whole_entries w.imports)) ∷ (codes "exports", Some (whole_entries w.exports))
+    (codes "name", Some (json_of_text w.name)) ∷ (codes "imports", Some (object_by entry_name whole_item w.imports)) ∷ (codes "exports", Some (object_by entry_name whole_item w.exports))
     ∷ (codes "includes", Some (written.list_of json_of_include w.includes)) ∷ (codes "docs", json_of_docs w.docs) ∷ (codes "stability", json_of_stability w.stability)
     ∷ (codes "span", option_map json_of_range w.span) ∷ [] in
     let j = slots ss in
     all_9 (λ (_ : Unit {0}) (name : List ℕ) (imports exports : List (WorldKey × WorldItem)) (includes : List WorldInclude) (docs : Docs) (stability : Stability) (home : Option ℕ)
     (span : Option (ℕ × ℕ)).
     let it : World = record { name = name; imports = imports; exports = exports; docs = docs; stability = stability; «package» = home; includes = includes; span = span } in it)
-    (only_slots world_members ss refl)
+    (only_slots (codes "name" ∷ codes "imports" ∷ codes "exports" ∷ codes "includes" ∷ codes "docs" ∷ codes "stability" ∷ codes "package" ∷ codes "span" ∷ []) ss refl)
     (reads_required read_text (codes "name") j (json_of_text w.name) w.name (get_slot (codes "name") ss) refl)
-    (reads_required read_entries (codes "imports") j (whole_entries w.imports) w.imports (get_slot (codes "imports") ss) (reads_world_entries w.imports fits.imports))
-    (reads_required read_entries (codes "exports") j (whole_entries w.exports) w.exports (get_slot (codes "exports") ss) (reads_world_entries w.exports fits.exports))
+    (reads_required read_entries (codes "imports") j (object_by entry_name whole_item w.imports) w.imports (get_slot (codes "imports") ss) (reads_world_entries w.imports fits.imports))
+    (reads_required read_entries (codes "exports") j (object_by entry_name whole_item w.exports) w.exports (get_slot (codes "exports") ss) (reads_world_entries w.exports fits.exports))
     (reads_includes w.includes j fits.includes (get_slot (codes "includes") ss))
     (reads_docs w.docs j (get_slot (codes "docs") ss))
     (reads_stability w.stability j fits.gate (get_slot (codes "stability") ss))
@@ -234,7 +234,7 @@ reads_alone_world w fits =
 -- it names no package
 unplaced_world : (world : World) → get (codes "package") (whole_world world) ≡ None
 unplaced_world w =
-    get_slot (codes "package") ((codes "name", Some (json_of_text w.name)) ∷ (codes "imports", Some (whole_entries w.imports)) ∷ (codes "exports", Some (whole_entries w.exports))
+    get_slot (codes "package") ((codes "name", Some (json_of_text w.name)) ∷ (codes "imports", Some (object_by entry_name whole_item w.imports)) ∷ (codes "exports", Some (object_by entry_name whole_item w.exports))
     ∷ (codes "includes", Some (written.list_of json_of_include w.includes)) ∷ (codes "docs", json_of_docs w.docs) ∷ (codes "stability", json_of_stability w.stability)
     ∷ (codes "span", option_map json_of_range w.span) ∷ [])
 

@@ -17,7 +17,6 @@ use Rattle.wit_data.specs.declared.types.TypeDefKind.TheVariants as kind
 use Rattle.wit_data.specs.declared.world.World.{World}
 use Rattle.wit_data.specs.declared.world.WorldItem.{WorldItem}
 use Rattle.wit_data.specs.declared.world.WorldItem.TheVariants as item
-use Rattle.wit_data.specs.declared.world.WorldKey.{WorldKey}
 use Rattle.wit_graph_data.specs.declared.graph.Graph.{Graph}
 use Rattle.wit_json.specs.Worlds.{entry_name}
 use Rattle.wit_json_reading.specs.Gates.{read_docs, read_place, read_span}
@@ -58,37 +57,26 @@ abbrev pub table_with : {K A : Type 0} → (K → List ℕ) → (A → Json → 
 table_with name f es (json.object ms) = entries_with name f es ms
 table_with name f es _ = instead_of expected.Object
 
--- the entries of a table under names
-abbrev pub named_with : {A : Type 0} → (A → Json → Reading A) → List (List ℕ × A) → Json
-    → Reading (List (List ℕ × A))
-named_with f es j = table_with (λ (name : List ℕ). name) f es j
-
 -- ---- types
 
-unfoldable pub field_with : Field → Json → Reading Field
-field_with f j = read_place j >>= λ span. Ok (record f { span = span })
-
-unfoldable pub flag_with : Flag → Json → Reading Flag
-flag_with f j = read_place j >>= λ span. Ok (record f { span = span })
-
-unfoldable pub case_with : Case → Json → Reading Case
-case_with c j = read_place j >>= λ span. Ok (record c { span = span })
-
-unfoldable pub enum_case_with : EnumCase → Json → Reading EnumCase
-enum_case_with c j = read_place j >>= λ span. Ok (record c { span = span })
+-- a thing with the span that a value is
+abbrev pub with_span : {A : Type 0} → (A → Option (ℕ × ℕ) → A) → A → Json → Reading A
+with_span set x j = read_place j >>= λ span. Ok (set x span)
 
 -- the fields, the flags or the cases of a type that has some; of another type there is nothing to say
 unfoldable pub kind_with : TypeDefKind → Json → Reading TypeDefKind
 kind_with (kind.Record fields) j =
-    read_required (list_with field_with fields) (codes "parts") j >>=
-    λ parts. Ok (kind.Record parts)
+    read_required (list_with (with_span (λ (f : Field) span. record f { span = span })) fields)
+    (codes "parts") j >>= λ parts. Ok (kind.Record parts)
 kind_with (kind.Flags flags) j =
-    read_required (list_with flag_with flags) (codes "parts") j >>= λ parts. Ok (kind.Flags parts)
+    read_required (list_with (with_span (λ (f : Flag) span. record f { span = span })) flags)
+    (codes "parts") j >>= λ parts. Ok (kind.Flags parts)
 kind_with (kind.Variant cases) j =
-    read_required (list_with case_with cases) (codes "parts") j >>= λ parts. Ok (kind.Variant parts)
+    read_required (list_with (with_span (λ (c : Case) span. record c { span = span })) cases)
+    (codes "parts") j >>= λ parts. Ok (kind.Variant parts)
 kind_with (kind.Enum cases) j =
-    read_required (list_with enum_case_with cases) (codes "parts") j >>=
-    λ parts. Ok (kind.Enum parts)
+    read_required (list_with (with_span (λ (c : EnumCase) span. record c { span = span })) cases)
+    (codes "parts") j >>= λ parts. Ok (kind.Enum parts)
 kind_with k j = only (codes "span" ∷ codes "external-id" ∷ []) j >>= λ _. Ok k
 
 unfoldable pub type_with_details : TypeDef → Json → Reading TypeDef
@@ -101,22 +89,22 @@ type_with_details def j = do
 
 -- ---- functions and interfaces
 
-unfoldable pub param_with : Param → Json → Reading Param
-param_with p j = read_place j >>= λ span. Ok (record p { span = span })
-
 unfoldable pub function_with_details : Function → Json → Reading Function
 function_with_details f j = do
   _ ← only (codes "span" ∷ codes "external-id" ∷ codes "params" ∷ []) j
   span ← read_span j
   external_id ← read_optional read_text (codes "external-id") j
-  params ← read_required (list_with param_with f.params) (codes "params") j
+  params ← read_required
+      (list_with (with_span (λ (p : Param) span. record p { span = span })) f.params)
+      (codes "params") j
   Ok (record f { span = span; external_id = external_id; params = params })
 
 unfoldable pub interface_with : Interface → Json → Reading Interface
 interface_with interface j = do
   _ ← only (codes "span" ∷ codes "functions" ∷ []) j
   span ← read_span j
-  functions ← read_required (named_with function_with_details interface.functions)
+  functions ← read_required
+      (table_with (λ (name : List ℕ). name) function_with_details interface.functions)
       (codes "functions") j
   Ok (record interface { span = span; functions = functions })
 
@@ -144,15 +132,12 @@ item_with (item.Interface id stability _ _ _) j =
 item_with (item.Function f) j = function_with_details f j >>= λ g. Ok (item.Function g)
 item_with (item.Type_ id _) j = span_alone j >>= λ span. Ok (item.Type_ id span)
 
-abbrev pub items_with : List (WorldKey × WorldItem) → Json → Reading (List (WorldKey × WorldItem))
-items_with entries j = table_with entry_name item_with entries j
-
 unfoldable pub world_with : World → Json → Reading World
 world_with world j = do
   _ ← only (codes "span" ∷ codes "imports" ∷ codes "exports" ∷ []) j
   span ← read_span j
-  imports ← read_required (items_with world.imports) (codes "imports") j
-  exports ← read_required (items_with world.exports) (codes "exports") j
+  imports ← read_required (table_with entry_name item_with world.imports) (codes "imports") j
+  exports ← read_required (table_with entry_name item_with world.exports) (codes "exports") j
   Ok (record world { span = span; imports = imports; exports = exports })
 
 -- ---- graphs

@@ -1,11 +1,11 @@
 //! What the details of a graph say of its things.
-ghost use Rattle.std.specs.Prelude.{◌≡◌, ◌<◌, ℕ, IfOk, bytes_eq, length};
+ghost use Rattle.std.specs.Prelude.{◌≡◌, ◌<◌, ℕ, IfOk, bytes_eq, length, List};
 ghost use Rattle.json.specs.Json.{Json};
 ghost use Rattle.json.specs.Value.{value_view};
 ghost use Rattle.wit_json.specs.Worlds.{entry_name};
 ghost use Rattle.wit_json_reading.specs.Reading.{Reading, read_required, under};
 ghost use Rattle.wit_json_reading.specs.declared.fault.Step.TheVariants.{Member};
-ghost use Rattle.wit_json_graphs.specs.Details.{items_with, list_with, named_with};
+ghost use Rattle.wit_json_graphs.specs.Details.{list_with, table_with, item_with};
 ghost use Rattle.wit_json_graphs.specs.steps.Completes.{Completes};
 ghost use Rattle.wit_json_graphs.specs.steps.Parts.{with_entry, with_item, with_named, with_parts};
 
@@ -126,7 +126,7 @@ impl<'a, T: ReadDetails> Row<Value<'a>> for Items<T> {
 
 /// Of each entry, under its name, in order.
 impl<T: ReadDetails> ReadDetails for Names<T> {
-    ghost detailed = { named_with T.detailed };
+    ghost detailed = { table_with (λ (name : List ℕ). name) T.detailed };
 
     fn read_details(&mut self, alloc: Global, value: &Value<'_>) -> Result<(), ReadError> {
         match value {
@@ -162,7 +162,7 @@ impl<'a, T: ReadDetails> Row<(&'a str, Value<'a>)> for Names<T> {
 
 /// Of each entry, under the name of its key, in order.
 impl ReadDetails for Table<WorldKey, WorldItem> {
-    ghost detailed = { items_with };
+    ghost detailed = { table_with entry_name item_with };
 
     fn read_details(&mut self, alloc: Global, value: &Value<'_>) -> Result<(), ReadError> {
         match value {

@@ -1,9 +1,12 @@
 //! The parts of a `Resolve`.
-ghost use Rattle.std.specs.Prelude.{codes};
+ghost use Rattle.std.specs.Prelude.{[], false, codes};
+ghost use Rattle.wit_names.specs.declared.track.TrackRule.TheVariants.{Published};
+ghost use Rattle.wit_json_reading.specs.Features.{read_features, read_rule};
+ghost use Rattle.wit_json_reading.specs.Groups.{read_sources};
+ghost use Rattle.wit_json_graphs.specs.Details.{graph_with};
 ghost use Rattle.json.specs.Value.{value_view};
-ghost use Rattle.json.specs.Find.{get};
-ghost use Rattle.wit_json_reading.specs.Reading.{Reads};
-ghost use Rattle.wit_json_graphs.specs.Resolves.{features_beside, read_resolve, rule_beside, sources_beside, with_details};
+ghost use Rattle.wit_json_reading.specs.Reading.{Reads, read_or};
+ghost use Rattle.wit_json_graphs.specs.Resolves.{read_resolve};
 
 use crate::details::member_details;
 use json::Value;
@@ -22,8 +25,10 @@ pub struct ResolveParts {
 }
 
 /// A graph with its details, where the value has some.
+#[tactic(auto, unfolding(wit_json_reading::specs::Reading::read_or))]
 fn with_details(alloc: Global, value: &Value<'_>, mut graph: Graph) -> Result<Graph, ReadError>
-    ensures { Reads result (with_details graph (get (codes "details") (value_view value.now))) }
+    ensures { Reads result
+        (read_or (graph_with graph) graph (codes "details") (value_view value.now)) }
 {
     if let Some(details) = value.get("details") {
         member_details(alloc, details, "details", &mut graph)?;
@@ -32,9 +37,11 @@ fn with_details(alloc: Global, value: &Value<'_>, mut graph: Graph) -> Result<Gr
 }
 
 /// The features that are on: none where they are left out.
-#[tactic(auto, unfolding(crate::specs::Resolves::features_beside))]
+#[tactic(auto, unfolding(wit_json_reading::specs::Reading::read_or))]
 fn features(alloc: Global, value: &Value<'_>) -> Result<Features, ReadError>
-    ensures { Reads result (features_beside (value_view value.now)) }
+    ensures { Reads result
+        (read_or read_features (record { names = []; all = false }) (codes "features")
+        (value_view value.now)) }
 {
     match optional(alloc, value, "features")? {
         Some(features) => Ok(features),
@@ -43,9 +50,11 @@ fn features(alloc: Global, value: &Value<'_>) -> Result<Features, ReadError>
 }
 
 /// The files: none where they are left out.
-#[tactic(auto, unfolding(crate::specs::Resolves::sources_beside))]
+#[tactic(auto, unfolding(wit_json_reading::specs::Reading::read_or))]
 fn sources(alloc: Global, value: &Value<'_>) -> Result<SourceMap, ReadError>
-    ensures { Reads result (sources_beside (value_view value.now)) }
+    ensures { Reads result
+        (read_or read_sources (record { files = []; end = 0 }) (codes "sources")
+        (value_view value.now)) }
 {
     match optional(alloc, value, "sources")? {
         Some(sources) => Ok(sources),
@@ -54,9 +63,10 @@ fn sources(alloc: Global, value: &Value<'_>) -> Result<SourceMap, ReadError>
 }
 
 /// The rule of tracks: the published one where it is left out.
-#[tactic(auto, unfolding(crate::specs::Resolves::rule_beside))]
+#[tactic(auto, unfolding(wit_json_reading::specs::Reading::read_or))]
 fn rule(alloc: Global, value: &Value<'_>) -> Result<TrackRule, ReadError>
-    ensures { Reads result (rule_beside (value_view value.now)) }
+    ensures { Reads result
+        (read_or read_rule Published (codes "track-rule") (value_view value.now)) }
 {
     match optional(alloc, value, "track-rule")? {
         Some(rule) => Ok(rule),

@@ -1,7 +1,12 @@
 //! The details of each sort of thing.
 ghost use Rattle.json.specs.Value.{value_view};
+ghost use Rattle.wit_data.specs.declared.function.Param.{Param};
+ghost use Rattle.wit_data.specs.declared.types.Case.{Case};
+ghost use Rattle.wit_data.specs.declared.types.EnumCase.{EnumCase};
+ghost use Rattle.wit_data.specs.declared.types.Field.{Field};
+ghost use Rattle.wit_data.specs.declared.types.Flag.{Flag};
 ghost use Rattle.wit_json_graphs.specs.steps.Completes.{Completes};
-ghost use Rattle.wit_json_graphs.specs.Details.{case_with, entry_with, enum_case_with, field_with, flag_with, function_with_details, graph_with, interface_with, item_with, kind_with, param_with, span_alone, type_with_details, world_with};
+ghost use Rattle.wit_json_graphs.specs.Details.{entry_with, function_with_details, graph_with, interface_with, item_with, kind_with, span_alone, type_with_details, world_with, with_span};
 
 use crate::details::{ReadDetails, required_details};
 use json::Value;
@@ -14,9 +19,8 @@ use wit_graph_data::Graph;
 use wit_json_reading::{ReadError, ReadJson, docs, only, optional, span};
 
 impl ReadDetails for Field {
-    ghost detailed = { field_with };
+    ghost detailed = { with_span (λ (f : Field) span. record f { span = span }) };
 
-    #[tactic(auto, unfolding(crate::specs::Details::field_with))]
     fn read_details(&mut self, alloc: Global, value: &Value<'_>) -> Result<(), ReadError> {
         self.span = ReadJson::read_json(alloc, value)?;
         Ok(())
@@ -24,9 +28,8 @@ impl ReadDetails for Field {
 }
 
 impl ReadDetails for Flag {
-    ghost detailed = { flag_with };
+    ghost detailed = { with_span (λ (f : Flag) span. record f { span = span }) };
 
-    #[tactic(auto, unfolding(crate::specs::Details::flag_with))]
     fn read_details(&mut self, alloc: Global, value: &Value<'_>) -> Result<(), ReadError> {
         self.span = ReadJson::read_json(alloc, value)?;
         Ok(())
@@ -34,9 +37,8 @@ impl ReadDetails for Flag {
 }
 
 impl ReadDetails for Case {
-    ghost detailed = { case_with };
+    ghost detailed = { with_span (λ (c : Case) span. record c { span = span }) };
 
-    #[tactic(auto, unfolding(crate::specs::Details::case_with))]
     fn read_details(&mut self, alloc: Global, value: &Value<'_>) -> Result<(), ReadError> {
         self.span = ReadJson::read_json(alloc, value)?;
         Ok(())
@@ -44,9 +46,8 @@ impl ReadDetails for Case {
 }
 
 impl ReadDetails for EnumCase {
-    ghost detailed = { enum_case_with };
+    ghost detailed = { with_span (λ (c : EnumCase) span. record c { span = span }) };
 
-    #[tactic(auto, unfolding(crate::specs::Details::enum_case_with))]
     fn read_details(&mut self, alloc: Global, value: &Value<'_>) -> Result<(), ReadError> {
         self.span = ReadJson::read_json(alloc, value)?;
         Ok(())
@@ -81,9 +82,8 @@ impl ReadDetails for TypeDef {
 }
 
 impl ReadDetails for Param {
-    ghost detailed = { param_with };
+    ghost detailed = { with_span (λ (p : Param) span. record p { span = span }) };
 
-    #[tactic(auto, unfolding(crate::specs::Details::param_with))]
     fn read_details(&mut self, alloc: Global, value: &Value<'_>) -> Result<(), ReadError> {
         self.span = ReadJson::read_json(alloc, value)?;
         Ok(())

@@ -1,7 +1,11 @@
 -- Digits one by one.
-use Rattle.std.proofs.Common.{◌≡◌, ◌≤◌, ◌<◌, ◌+◌, ◌-◌, ◌*◌, ◌^◌, ◌∙◌, ℕ, zero, suc, Bool, true, false, List, [], ◌∷◌, length, get_or, drop, drop-cons, Option, None, Some, refl, sym, ap, arith, if◌then◌else◌}
+use Rattle.std.proofs.Common.{◌≡◌, ◌≤◌, ◌<◌, ◌+◌, ◌-◌, ◌*◌, ◌∙◌, ℕ, zero, suc, Bool, true, false, List, [], ◌∷◌, length, get_or, drop, drop-cons, Option, None, Some, refl, sym, ap, arith, if◌then◌else◌, option_and_then, nat_lt, ◌^◌}
 use Rattle.std.specs.Char.{is_ascii_digit}
-use Rattle.wit_json_reading.specs.Values.{decimal_after, number_below}
+use Rattle.wit_json_reading.specs.Values.{decimal_after}
+
+-- the number, where it is below a limit
+abbrev pub number_below : ℕ → Option ℕ → Option ℕ
+number_below limit n = option_and_then (λ n. if nat_lt n limit then Some n else None) n
 
 one_digit : (limit n c : ℕ) (cs : List ℕ) (b : Bool) → number_below limit (decimal_after (n * 10 + (c - 48)) cs) ≡ None
     → number_below limit (if b then decimal_after (n * 10 + (c - 48)) cs else None) ≡ None

@@ -1,5 +1,5 @@
 -- What functions are read from.
-use Rattle.std.specs.Prelude.{ℕ, List, [], ◌∷◌, Option, Some, None, Result, Ok, Err, codes, if◌then◌else◌, bytes_eq}
+use Rattle.std.specs.Prelude.{ℕ, List, [], ◌∷◌, Ok, codes, if◌then◌else◌, bytes_eq, Option, Some, None, Result, Err}
 use Rattle.json.specs.Json.{Json}
 use Rattle.json.specs.Json as json
 use Rattle.wit_data.specs.declared.function.Function.{Function}
@@ -12,15 +12,6 @@ use Rattle.wit_json_reading.specs.Reading.{Reading, ◌>>=◌, instead_of, read_
 use Rattle.wit_json_reading.specs.Types.{read_type}
 use Rattle.wit_json_reading.specs.Values.{read_number, read_text}
 use Rattle.wit_json_reading.specs.declared.fault.Expected.TheVariants as expected
-
--- a kind without a resource
-abbrev pub read_plain_function_kind : List ℕ → Reading FunctionKind
-read_plain_function_kind word =
-    if bytes_eq word (codes "freestanding") then Ok function.Freestanding
-    else if bytes_eq word (codes "async-freestanding") then Ok function.AsyncFreestanding
-    else if bytes_eq word (codes "getter") then Ok function.Getter
-    else if bytes_eq word (codes "setter") then Ok function.Setter
-    else instead_of expected.FunctionKind
 
 -- a kind of a resource's function
 abbrev pub read_resource_kind : List ℕ → ℕ → Reading FunctionKind
@@ -36,15 +27,17 @@ read_resource_kind name id =
     else if bytes_eq name (codes "static-setter") then Ok (function.StaticSetter id)
     else instead_of expected.FunctionKind
 
-unfoldable pub read_function_kind_by : List ℕ → Json → Reading FunctionKind
-read_function_kind_by name j = do
-  id ← read_number j
-  read_resource_kind name id
-
 -- what a function is: a word, or a word with the id of its resource
 unfoldable pub read_function_kind : Json → Reading FunctionKind
-read_function_kind (json.string word) = read_plain_function_kind word
-read_function_kind j = read_variant read_function_kind_by expected.FunctionKind j
+read_function_kind (json.string word) =
+    if bytes_eq word (codes "freestanding") then Ok function.Freestanding
+    else if bytes_eq word (codes "async-freestanding") then Ok function.AsyncFreestanding
+    else if bytes_eq word (codes "getter") then Ok function.Getter
+    else if bytes_eq word (codes "setter") then Ok function.Setter
+    else instead_of expected.FunctionKind
+read_function_kind j =
+    read_variant (λ name it. read_number it >>= λ id. read_resource_kind name id)
+    expected.FunctionKind j
 
 unfoldable pub read_param : Json → Reading Param
 read_param j = do
@@ -54,14 +47,10 @@ read_param j = do
   span ← read_span j
   Ok (record { name = name; ty = ty; span = span })
 
-abbrev pub function_members : List (List ℕ)
-function_members =
-    codes "name" ∷ codes "kind" ∷ codes "params" ∷ codes "result" ∷ codes "docs" ∷ codes "stability"
-    ∷ codes "span" ∷ codes "external-id" ∷ []
-
 unfoldable pub read_function : Json → Reading Function
 read_function j = do
-  _ ← only function_members j
+  _ ← only (codes "name" ∷ codes "kind" ∷ codes "params" ∷ codes "result" ∷ codes "docs"
+      ∷ codes "stability" ∷ codes "span" ∷ codes "external-id" ∷ []) j
   name ← read_required read_text (codes "name") j
   kind ← read_required read_function_kind (codes "kind") j
   params ← read_required (read_list read_param) (codes "params") j

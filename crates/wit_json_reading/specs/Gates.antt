@@ -1,11 +1,11 @@
 -- What spans, docs and feature gates are read from.
-use Rattle.std.specs.Prelude.{ℕ, List, [], ◌∷◌, Option, Some, None, Result, Ok, Err, codes, unwrap_or, if◌then◌else◌, bytes_eq, nat_le}
+use Rattle.std.specs.Prelude.{ℕ, List, [], ◌∷◌, Option, Some, None, Ok, codes, if◌then◌else◌, bytes_eq, nat_le, Result, Err}
 use Rattle.json.specs.Json.{Json}
 use Rattle.json.specs.Json as json
 use Rattle.wit_data.specs.declared.stability.Docs.{Docs}
 use Rattle.wit_data.specs.declared.stability.Stability.{Stability}
 use Rattle.wit_data.specs.declared.stability.Stability.TheVariants.{Unknown, Stable, Unstable}
-use Rattle.wit_json_reading.specs.Reading.{Reading, ◌>>=◌, instead_of, only, read_optional, read_required}
+use Rattle.wit_json_reading.specs.Reading.{Reading, ◌>>=◌, instead_of, only, read_optional, read_required, read_or}
 use Rattle.wit_json_reading.specs.Objects.{alone, read_pair, read_variant}
 use Rattle.wit_json_reading.specs.Values.{read_small_number, read_text, read_version}
 use Rattle.wit_json_reading.specs.declared.fault.Expected.TheVariants as expected
@@ -23,24 +23,16 @@ read_place j = read_range j
 
 -- the span of an item, unknown where it is left out
 unfoldable pub read_span : Json → Reading (Option (ℕ × ℕ))
-read_span j = do
-  span ← read_optional read_place (codes "span") j
-  Ok (unwrap_or span None)
+read_span j = read_or read_place None (codes "span") j
 
 -- `{"contents": text}`
 unfoldable pub read_contents : Json → Reading Docs
-read_contents j = do
-  text ← alone read_text (codes "contents") j
-  Ok (record { contents = Some text })
+read_contents j =
+    alone read_text (codes "contents") j >>= λ text. Ok (record { contents = Some text })
 
-abbrev pub no_docs : Docs
-no_docs = record { contents = None }
-
--- the docs of an item
+-- the docs of an item, none where they are left out
 unfoldable pub read_docs : Json → Reading Docs
-read_docs j = do
-  docs ← read_optional read_contents (codes "docs") j
-  Ok (unwrap_or docs no_docs)
+read_docs j = read_or read_contents (record { contents = None }) (codes "docs") j
 
 -- `{"since": version}`, and `"deprecated": version` where it is so
 unfoldable pub read_stable : Json → Reading Stability
@@ -71,6 +63,4 @@ read_any_gate j = read_variant read_gate_by expected.Gate j
 
 -- the gate of an item
 unfoldable pub read_stability : Json → Reading Stability
-read_stability j = do
-  gate ← read_optional read_any_gate (codes "stability") j
-  Ok (unwrap_or gate Unknown)
+read_stability j = read_or read_any_gate Unknown (codes "stability") j

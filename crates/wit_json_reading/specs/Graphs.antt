@@ -1,6 +1,6 @@
 -- What graphs are read from: the layout, in which spans, external ids and the docs of entries may stand as in unresolved
 -- packages.
-use Rattle.std.specs.Prelude.{ℕ, List, [], ◌∷◌, ◌++◌, length, Result, Ok, Err, codes, if◌then◌else◌, is_some}
+use Rattle.std.specs.Prelude.{ℕ, List, [], ◌∷◌, ◌++◌, length, Ok, codes, if◌then◌else◌, is_some, Result, Err}
 use Rattle.std.specs.Map.{lookup}
 use Rattle.json.specs.Json.{Json}
 use Rattle.wit_names.specs.PackageName.{same_package}
@@ -28,23 +28,17 @@ read_graph_package j = do
 
 -- ---- the names of packages
 
-abbrev pub Homes : Type 0
-Homes = List (PackageName × ℕ)
-
 -- one package more under its name, which no package before it has; its id is the next one
-abbrev pub with_home : Package → Homes → Reading Homes
+abbrev pub with_home : Package → List (PackageName × ℕ) → Reading (List (PackageName × ℕ))
 with_home home names =
     if is_some (lookup (same_package home.name) names) then under (step.Item (length names))
     (under (step.Member (codes "name")) (instead_of expected.NewName))
     else Ok (names ++ (home.name, length names) ∷ [])
 
-abbrev pub homes_from : Homes → List Package → Reading Homes
+-- each package under its name, in order, behind those that are there
+abbrev pub homes_from : List (PackageName × ℕ) → List Package → Reading (List (PackageName × ℕ))
 homes_from names [] = Ok names
 homes_from names (home ∷ homes) = with_home home names >>= λ more. homes_from more homes
-
--- each package under its name, in order
-abbrev pub homes_of : List Package → Reading Homes
-homes_of homes = homes_from [] homes
 
 -- ---- graphs
 
@@ -57,7 +51,7 @@ read_graph j = do
   interfaces ← read_required (read_list read_interface) (codes "interfaces") j
   types ← read_required (read_list read_type_def) (codes "types") j
   packages ← read_required (read_list read_graph_package) (codes "packages") j
-  names ← under (step.Member (codes "packages")) (homes_of packages)
+  names ← under (step.Member (codes "packages")) (homes_from [] packages)
   Ok (record {
     types = types;
     interfaces = interfaces;

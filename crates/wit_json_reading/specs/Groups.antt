@@ -1,5 +1,5 @@
 -- What source maps and groups of packages are read from.
-use Rattle.std.specs.Prelude.{ℕ, ◌^◌, List, [], ◌∷◌, length, Result, Ok, Err, codes, if◌then◌else◌, nat_lt}
+use Rattle.std.specs.Prelude.{ℕ, ◌^◌, List, [], ◌∷◌, length, Ok, codes, if◌then◌else◌, nat_lt, Result, Err}
 use Rattle.json.specs.Json.{Items, Json}
 use Rattle.json.specs.Json as json
 use Rattle.wit_sources.specs.SourceMap.{Sources, end_after, with_file}
@@ -24,22 +24,16 @@ with_source sources file =
     if nat_lt (end_after sources.end file.1) (2 ^ 32) then Ok (with_file sources file.0 file.1)
     else instead_of expected.Source
 
-abbrev pub source_behind : Sources → Json → Reading Sources
-source_behind sources j = read_source j >>= λ file. with_source sources file
-
 -- the files of items, behind those that are there
 abbrev pub sources_from : Sources → Items → Reading Sources
 sources_from sources json.no_items = Ok sources
 sources_from sources (json.item j js) =
-    under (step.Item (length sources.files)) (source_behind sources j) >>=
-    λ more. sources_from more js
-
-abbrev pub no_sources : Sources
-no_sources = record { files = []; end = 0 }
+    under (step.Item (length sources.files)) (read_source j >>= λ file. with_source sources file)
+    >>= λ more. sources_from more js
 
 -- files in a row, from position 0 on
 abbrev pub read_sources : Json → Reading Sources
-read_sources (json.array js) = sources_from no_sources js
+read_sources (json.array js) = sources_from (record { files = []; end = 0 }) js
 read_sources _ = instead_of expected.List
 
 -- packages, and the files in which their spans are positions

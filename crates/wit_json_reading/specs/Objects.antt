@@ -1,5 +1,6 @@
 -- Values with a name or with parts: variants, pairs, objects of one member.
 use Rattle.std.specs.Prelude.{ℕ, List, [], ◌∷◌, Option, Some, None, Ok}
+use Rattle.std.specs.Option.{option_map_or}
 use Rattle.json.specs.Json.{Json}
 use Rattle.json.specs.Json as json
 use Rattle.wit_json_reading.specs.Reading.{Reading, ◌>>=◌, instead_of, only, read_required, under}
@@ -12,14 +13,11 @@ abbrev pub one_member : Json → Option (List ℕ × Json)
 one_member (json.object (json.member name j json.no_members)) = Some (name, j)
 one_member _ = None
 
-abbrev pub by_member : {A : Type 0} → (List ℕ → Json → Reading A) → Expected
-    → Option (List ℕ × Json) → Reading A
-by_member f e None = instead_of e
-by_member f e (Some m) = under (step.Member m.0) (f m.0 m.1)
-
 -- an object of one member, which says of what variant its value is
 abbrev pub read_variant : {A : Type 0} → (List ℕ → Json → Reading A) → Expected → Json → Reading A
-read_variant f e j = by_member f e (one_member j)
+read_variant f e j =
+    option_map_or (λ (m : List ℕ × Json). under (step.Member m.0) (f m.0 m.1)) (one_member j)
+    (instead_of e)
 
 -- an object of this member alone
 abbrev pub alone : {A : Type 0} → (Json → Reading A) → List ℕ → Json → Reading A
@@ -32,15 +30,10 @@ abbrev pub two_items : Json → Option (Json × Json)
 two_items (json.array (json.item a (json.item b json.no_items))) = Some (a, b)
 two_items _ = None
 
-abbrev pub by_items : {A B : Type 0} → (Json → Reading A) → (Json → Reading B)
-    → Option (Json × Json) → Reading (A × B)
-by_items f g None = instead_of expected.Pair
-by_items f g (Some p) = do
-  x ← under (step.Item 0) (f p.0)
-  y ← under (step.Item 1) (g p.1)
-  Ok (x, y)
-
 -- a list of two values
 abbrev pub read_pair : {A B : Type 0} → (Json → Reading A) → (Json → Reading B) → Json
     → Reading (A × B)
-read_pair f g j = by_items f g (two_items j)
+read_pair f g j =
+    option_map_or (λ (p : Json × Json).
+    under (step.Item 0) (f p.0) >>= λ x. under (step.Item 1) (g p.1) >>= λ y. Ok (x, y))
+    (two_items j) (instead_of expected.Pair)

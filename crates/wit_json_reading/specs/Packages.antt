@@ -1,24 +1,24 @@
 -- What unresolved packages are read from. Each list of a package is a member, and ids are indices in these.
-use Rattle.std.specs.Prelude.{ℕ, ◌==◌, ◌^◌, List, [], ◌∷◌, ◌++◌, Option, Some, None, Result, Ok, Err, codes, if◌then◌else◌, bytes_eq, is_some, nat_lt}
+use Rattle.std.specs.Prelude.{ℕ, ◌==◌, List, [], ◌∷◌, ◌++◌, Option, Some, None, Ok, codes, if◌then◌else◌, bytes_eq, is_some, ◌^◌, Result, Err, nat_lt}
 use Rattle.std.specs.List.{after_first, before_first, list_any}
 use Rattle.std.specs.Map.{lookup}
-use Rattle.json.specs.Json.{Items, Json, Members}
+use Rattle.json.specs.Json.{Json, Members, Items}
 use Rattle.json.specs.Json as json
 use Rattle.semver.specs.Parse.{version_parts}
 use Rattle.wit_values.specs.Version.{Parts}
 use Rattle.wit_names.specs.PackageName.{same_package}
 use Rattle.wit_names.specs.declared.package_name.PackageName.{PackageName}
-use Rattle.wit_data.specs.Foreign.{ForeignItem}
+use Rattle.wit_data.specs.Foreign.{ForeignItem, ForeignItems}
 use Rattle.wit_data.specs.declared.stability.Stability.{Stability}
 use Rattle.wit_data.specs.declared.unresolved.AstItem.{AstItem}
 use Rattle.wit_data.specs.declared.unresolved.AstItem.TheVariants as item
 use Rattle.wit_data.specs.declared.unresolved.UnresolvedPackage.{UnresolvedPackage}
 use Rattle.wit_json_reading.specs.Gates.{read_docs, read_any_gate, read_place, read_span}
 use Rattle.wit_json_reading.specs.Objects.{read_pair, read_variant}
-use Rattle.wit_json_reading.specs.Reading.{Reading, ◌>>=◌, instead_of, read_list, only, read_optional, read_required, under, read_leaving_out}
+use Rattle.wit_json_reading.specs.Reading.{Reading, ◌>>=◌, instead_of, read_list, only, read_required, under, read_leaving_out, read_optional}
 use Rattle.wit_json_reading.specs.Tables.{read_named}
 use Rattle.wit_json_reading.specs.Types.{read_type_def}
-use Rattle.wit_json_reading.specs.Values.{read_number, read_text, version_in}
+use Rattle.wit_json_reading.specs.Values.{read_number, version_in}
 use Rattle.wit_json_reading.specs.Worlds.{read_interface, read_world}
 use Rattle.wit_json_reading.specs.declared.fault.Expected.TheVariants as expected
 use Rattle.wit_json_reading.specs.declared.fault.Step.TheVariants as step
@@ -41,14 +41,12 @@ name_in namespace text =
     { namespace = namespace; name = before_first (λ b. b == 64) text; version = version })
 
 -- `namespace:name`, and `@version` where there is one
-unfoldable pub package_name_in : List ℕ → Reading PackageName
-package_name_in text =
+unfoldable pub read_package_name : Json → Reading PackageName
+read_package_name (json.string text) =
     if list_any (λ b. b == 58) text then name_in (before_first (λ b. b == 58) text)
     (after_first (λ b. b == 58) text)
     else instead_of expected.PackageName
-
-unfoldable pub read_package_name : Json → Reading PackageName
-read_package_name j = read_text j >>= λ text. package_name_in text
+read_package_name _ = instead_of expected.Text
 
 -- ---- what is named of other packages
 
@@ -58,51 +56,41 @@ read_ast_item_by name j =
     else if bytes_eq name (codes "world") then (read_number j >>= λ id. Ok (item.World id))
     else instead_of expected.ForeignItem
 
--- an interface or a world of another package, by its id
-unfoldable pub read_ast_item : Json → Reading AstItem
-read_ast_item j = read_variant read_ast_item_by expected.ForeignItem j
-
--- with the gates under which it is named
+-- an interface or a world of another package, by its id, with the gates under which it is named
 abbrev pub read_foreign_item : Json → Reading (AstItem × List Stability)
-read_foreign_item j = read_pair read_ast_item (read_list read_any_gate) j
-
-abbrev pub foreign_deps : Type 0
-foreign_deps = List (PackageName × List ForeignItem)
+read_foreign_item j =
+    read_pair (read_variant read_ast_item_by expected.ForeignItem) (read_list read_any_gate) j
 
 -- what is named of one more package, behind those that are there
-abbrev pub with_dep : List ℕ → PackageName → List ForeignItem → foreign_deps → Reading foreign_deps
+abbrev pub with_dep : List ℕ → PackageName → List ForeignItem → ForeignItems → Reading ForeignItems
 with_dep text name named deps =
     if is_some (lookup (same_package name) deps) then under (step.Member text)
     (instead_of expected.NoSecondMember)
     else Ok (deps ++ (name, named) ∷ [])
 
-abbrev pub read_dep : List ℕ → Json → foreign_deps → Reading foreign_deps
+abbrev pub read_dep : List ℕ → Json → ForeignItems → Reading ForeignItems
 read_dep text j deps = do
-  name ← under (step.Member text) (package_name_in text)
+  name ← under (step.Member text) (read_package_name (json.string text))
   named ← under (step.Member text) (read_named read_foreign_item j)
   with_dep text name named deps
 
-abbrev pub deps_from : foreign_deps → Members → Reading foreign_deps
+abbrev pub deps_from : ForeignItems → Members → Reading ForeignItems
 deps_from deps json.no_members = Ok deps
 deps_from deps (json.member text j ms) = read_dep text j deps >>= λ more. deps_from more ms
 
 -- under the names of packages what is named of each
-abbrev pub read_deps : Json → Reading foreign_deps
+abbrev pub read_deps : Json → Reading ForeignItems
 read_deps (json.object ms) = deps_from [] ms
 read_deps _ = instead_of expected.Object
 
 -- ---- packages
 
-abbrev pub package_members : List (List ℕ)
-package_members =
-    codes "name" ∷ codes "span" ∷ codes "docs" ∷ codes "worlds" ∷ codes "interfaces" ∷ codes "types"
-    ∷ codes "foreign-deps" ∷ codes "foreign-dep-spans"
-    ∷ codes "unknown-type-spans" ∷ codes "required-resources" ∷ []
-
 -- its worlds and interfaces belong to it, and name no package
 unfoldable pub read_package : Json → Reading UnresolvedPackage
 read_package j = do
-  _ ← only package_members j
+  _ ← only (codes "name" ∷ codes "span" ∷ codes "docs" ∷ codes "worlds" ∷ codes "interfaces"
+      ∷ codes "types" ∷ codes "foreign-deps" ∷ codes "foreign-dep-spans"
+      ∷ codes "unknown-type-spans" ∷ codes "required-resources" ∷ []) j
   name ← read_required read_package_name (codes "name") j
   span ← read_span j
   docs ← read_docs j

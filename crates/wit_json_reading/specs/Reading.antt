@@ -1,5 +1,6 @@
 -- What a JSON value reads as: the thing that it says, or the first fault in it.
-use Rattle.std.specs.Prelude.{◌≡◌, ℕ, suc, List, [], ◌∷◌, ◌++◌, Option, Some, None, Result, Ok, Err, if◌then◌else◌, bytes_eq, is_some}
+use Rattle.std.specs.Prelude.{◌≡◌, ℕ, suc, List, [], ◌∷◌, ◌++◌, Option, Some, None, Result, Ok, Err, if◌then◌else◌, bytes_eq, is_some, unwrap_or}
+use Rattle.std.specs.Option.{option_map_or}
 use Rattle.std.specs.List.{list_any}
 use Rattle.json.specs.Json.{Json, Items, Members}
 use Rattle.json.specs.Json as json
@@ -53,23 +54,20 @@ abbrev pub only : List (List ℕ) → Json → Reading (Unit {0})
 only known (json.object ms) = names_from known [] ms
 only known _ = instead_of expected.Object
 
--- a member where it is there
-abbrev pub if_there : {A : Type 0} → (Json → Reading A) → List ℕ → Option Json → Reading (Option A)
-if_there f name None = Ok None
-if_there f name (Some j) = under (step.Member name) (f j) >>= λ x. Ok (Some x)
-
 -- the member of a name, which may be left out
 abbrev pub read_optional : {A : Type 0} → (Json → Reading A) → List ℕ → Json → Reading (Option A)
-read_optional f name j = if_there f name (get name j)
+read_optional f name j =
+    option_map_or (λ it. under (step.Member name) (f it) >>= λ x. Ok (Some x)) (get name j)
+    (Ok None)
 
--- a member that has to be there
-abbrev pub has_to_be_there : {A : Type 0} → (Json → Reading A) → List ℕ → Option Json → Reading A
-has_to_be_there f name None = under (step.Member name) (instead_of expected.Member)
-has_to_be_there f name (Some j) = under (step.Member name) (f j)
+-- the member of a name, or this where it is left out
+unfoldable pub read_or : {A : Type 0} → (Json → Reading A) → A → List ℕ → Json → Reading A
+read_or f default name j = read_optional f name j >>= λ it. Ok (unwrap_or it default)
 
--- the member of a name
+-- the member of a name, which has to be there
 abbrev pub read_required : {A : Type 0} → (Json → Reading A) → List ℕ → Json → Reading A
-read_required f name j = has_to_be_there f name (get name j)
+read_required f name j =
+    under (step.Member name) (option_map_or f (get name j) (instead_of expected.Member))
 
 -- a value that has no member of this name
 abbrev pub read_leaving_out : {A : Type 0} → List ℕ → (Json → Reading A) → Json → Reading A

@@ -1,5 +1,5 @@
 -- What types are read from: the values that wit_json writes of them, with spans and external ids as members of their own.
-use Rattle.std.specs.Prelude.{ℕ, List, [], ◌∷◌, Option, Some, None, Result, Ok, Err, codes, if◌then◌else◌, bytes_eq}
+use Rattle.std.specs.Prelude.{ℕ, List, [], ◌∷◌, Option, None, Ok, Err, codes, if◌then◌else◌, bytes_eq, Some, Result}
 use Rattle.json.specs.Json.{Json}
 use Rattle.json.specs.Json as json
 use Rattle.wit_data.specs.declared.types.Case.{Case}
@@ -21,9 +21,13 @@ use Rattle.wit_json_reading.specs.Reading.{Reading, ◌>>=◌, instead_of, read_
 use Rattle.wit_json_reading.specs.Values.{nullable, read_number, read_small_number, read_text}
 use Rattle.wit_json_reading.specs.declared.fault.Expected.TheVariants as expected
 
--- the primitive of a name
-abbrev pub read_primitive : List ℕ → Reading Type_
-read_primitive word =
+abbrev pub by_id : Reading ℕ → Reading Type_
+by_id (Ok id) = Ok (type.Id id)
+by_id (Err fault) = instead_of expected.Type
+
+-- a primitive by its name, or a type by its id
+unfoldable pub read_type : Json → Reading Type_
+read_type (json.string word) =
     if bytes_eq word (codes "bool") then Ok type.Bool
     else if bytes_eq word (codes "u8") then Ok type.U8
     else if bytes_eq word (codes "u16") then Ok type.U16
@@ -39,14 +43,6 @@ read_primitive word =
     else if bytes_eq word (codes "string") then Ok type.String
     else if bytes_eq word (codes "error-context") then Ok type.ErrorContext
     else instead_of expected.Type
-
-abbrev pub by_id : Reading ℕ → Reading Type_
-by_id (Ok id) = Ok (type.Id id)
-by_id (Err fault) = instead_of expected.Type
-
--- a primitive by its name, or a type by its id
-unfoldable pub read_type : Json → Reading Type_
-read_type (json.string word) = read_primitive word
 read_type j = by_id (read_number j)
 
 unfoldable pub read_field : Json → Reading Field
@@ -89,9 +85,6 @@ read_handle_by name j =
     else if bytes_eq name (codes "borrow") then (read_number j >>= λ id. Ok (Borrow id))
     else instead_of expected.Handle
 
-unfoldable pub read_handle : Json → Reading Handle
-read_handle j = read_variant read_handle_by expected.Handle j
-
 -- who owns a type: nobody, an interface or a world
 abbrev pub read_owner_by : List ℕ → Json → Reading TypeOwner
 read_owner_by name j =
@@ -111,32 +104,13 @@ read_result j = do
   err ← read_required (nullable read_type) (codes "err") j
   Ok (kind.Result_ ok err)
 
--- the types of keys and of values
-unfoldable pub read_map : Json → Reading TypeDefKind
-read_map j = do
-  parts ← read_pair read_type read_type j
-  Ok (kind.Map parts.0 parts.1)
-
--- the type of the items, and how many they are
-unfoldable pub read_fixed_length_list : Json → Reading TypeDefKind
-read_fixed_length_list j = do
-  parts ← read_pair read_type read_small_number j
-  Ok (kind.FixedLengthList parts.0 parts.1)
-
--- a kind without parts
-abbrev pub read_plain_kind : List ℕ → Reading TypeDefKind
-read_plain_kind word =
-    if bytes_eq word (codes "resource") then Ok kind.Resource
-    else if bytes_eq word (codes "unknown") then Ok kind.Unknown
-    else instead_of expected.TypeKind
-
 -- a kind with parts
 unfoldable pub read_kind_by : List ℕ → Json → Reading TypeDefKind
 read_kind_by name j =
     if bytes_eq name (codes "record")
     then (alone (read_list read_field) (codes "fields") j >>= λ fields. Ok (kind.Record fields))
     else if bytes_eq name (codes "handle")
-    then (read_handle j >>= λ handle. Ok (kind.Handle handle))
+    then (read_variant read_handle_by expected.Handle j >>= λ handle. Ok (kind.Handle handle))
     else if bytes_eq name (codes "flags")
     then (alone (read_list read_flag) (codes "flags") j >>= λ flags. Ok (kind.Flags flags))
     else if bytes_eq name (codes "tuple")
@@ -148,8 +122,11 @@ read_kind_by name j =
     else if bytes_eq name (codes "option") then (read_type j >>= λ ty. Ok (kind.Option ty))
     else if bytes_eq name (codes "result") then read_result j
     else if bytes_eq name (codes "list") then (read_type j >>= λ ty. Ok (kind.List ty))
-    else if bytes_eq name (codes "map") then read_map j
-    else if bytes_eq name (codes "fixed-length-list") then read_fixed_length_list j
+    else if bytes_eq name (codes "map")
+    then (read_pair read_type read_type j >>= λ parts. Ok (kind.Map parts.0 parts.1))
+    else if bytes_eq name (codes "fixed-length-list")
+    then (read_pair read_type read_small_number j
+    >>= λ parts. Ok (kind.FixedLengthList parts.0 parts.1))
     else if bytes_eq name (codes "future") then (nullable read_type j >>= λ ty. Ok (kind.Future ty))
     else if bytes_eq name (codes "stream") then (nullable read_type j >>= λ ty. Ok (kind.Stream ty))
     else if bytes_eq name (codes "type") then (read_type j >>= λ ty. Ok (kind.Type_ ty))
@@ -157,17 +134,16 @@ read_kind_by name j =
 
 -- what a type is: a word, or a word with its parts
 unfoldable pub read_kind : Json → Reading TypeDefKind
-read_kind (json.string word) = read_plain_kind word
+read_kind (json.string word) =
+    if bytes_eq word (codes "resource") then Ok kind.Resource
+    else if bytes_eq word (codes "unknown") then Ok kind.Unknown
+    else instead_of expected.TypeKind
 read_kind j = read_variant read_kind_by expected.TypeKind j
-
-abbrev pub type_members : List (List ℕ)
-type_members =
-    codes "name" ∷ codes "kind" ∷ codes "owner" ∷ codes "docs" ∷ codes "stability" ∷ codes "span"
-    ∷ codes "external-id" ∷ []
 
 unfoldable pub read_type_def : Json → Reading TypeDef
 read_type_def j = do
-  _ ← only type_members j
+  _ ← only (codes "name" ∷ codes "kind" ∷ codes "owner" ∷ codes "docs" ∷ codes "stability"
+      ∷ codes "span" ∷ codes "external-id" ∷ []) j
   name ← read_required (nullable read_text) (codes "name") j
   kind ← read_required read_kind (codes "kind") j
   owner ← read_required read_owner (codes "owner") j

@@ -1,5 +1,6 @@
 -- Small values, and what they read as.
-use Rattle.std.specs.Prelude.{◌≡◌, ℕ, ◌+◌, ◌-◌, ◌*◌, ◌^◌, Bool, List, [], ◌∷◌, Option, Some, None, Result, Ok, Err, if◌then◌else◌, nat_lt}
+use Rattle.std.specs.Prelude.{ℕ, ◌+◌, ◌-◌, ◌*◌, ◌^◌, Bool, List, [], ◌∷◌, Option, Some, None, Result, Ok, Err, if◌then◌else◌, nat_lt, option_and_then, ◌≡◌}
+use Rattle.std.specs.Option.{option_map_or}
 use Rattle.std.specs.Char.{is_ascii_digit}
 use Rattle.json.specs.Json.{Json}
 use Rattle.json.specs.Json as json
@@ -37,21 +38,14 @@ abbrev pub decimal_after : ℕ → List ℕ → Option ℕ
 decimal_after n [] = Some n
 decimal_after n (c ∷ cs) = if is_ascii_digit c then decimal_after (n * 10 + (c - 48)) cs else None
 
--- the number, where it is below a limit
-abbrev pub number_below : ℕ → Option ℕ → Option ℕ
-number_below limit None = None
-number_below limit (Some n) = if nat_lt n limit then Some n else None
-
 -- the number that a text of digits alone writes, where it has 64 bits
 unfoldable pub decimal_of : List ℕ → Option ℕ
-decimal_of text = number_below (2 ^ 64) (decimal_after 0 text)
-
-abbrev pub or_number : Option ℕ → Reading ℕ
-or_number None = instead_of expected.Number
-or_number (Some n) = Ok n
+decimal_of text =
+    option_and_then (λ n. if nat_lt n (2 ^ 64) then Some n else None) (decimal_after 0 text)
 
 abbrev pub read_number : Json → Reading ℕ
-read_number (json.number text) = or_number (decimal_of text)
+read_number (json.number text) =
+    option_map_or (λ n. Ok n) (decimal_of text) (instead_of expected.Number)
 read_number _ = instead_of expected.Number
 
 -- a number of 32 bits

@@ -1,10 +1,9 @@
 -- What interfaces and worlds are read from, of graphs (which have no `includes`) and of unresolved packages (which have no
 -- `package`).
-use Rattle.std.specs.Prelude.{ℕ, List, [], ◌∷◌, ◌++◌, Option, Some, None, Result, Ok, Err, codes, decimal, drop, if◌then◌else◌, bytes_eq, is_some, nat_eq, unwrap_or}
+use Rattle.std.specs.Prelude.{ℕ, List, [], ◌∷◌, ◌++◌, None, Ok, codes, decimal, drop, if◌then◌else◌, bytes_eq, is_some, nat_eq, Result, Err}
+use Rattle.json.specs.Find.{get}
 use Rattle.std.specs.List.{list_any, starts_with}
 use Rattle.std.specs.Map.{lookup}
-use Rattle.std.specs.Option.{option_map_or}
-use Rattle.json.specs.Find.{get}
 use Rattle.json.specs.Json.{Json, Members}
 use Rattle.json.specs.Json as json
 use Rattle.wit_data.specs.facts.WorldKeyFacts.{same_key}
@@ -18,33 +17,24 @@ use Rattle.wit_data.specs.declared.world.WorldKey.{WorldKey}
 use Rattle.wit_data.specs.declared.world.WorldKey.TheVariants as key
 use Rattle.wit_json_reading.specs.Functions.{read_function}
 use Rattle.wit_json_reading.specs.Gates.{read_docs, read_span, read_stability}
-use Rattle.wit_json_reading.specs.Objects.{one_member, read_variant}
-use Rattle.wit_json_reading.specs.Reading.{Reading, ◌>>=◌, instead_of, read_list, only, read_optional, read_required, under}
+use Rattle.wit_json_reading.specs.Objects.{read_variant, one_member}
+use Rattle.wit_json_reading.specs.Reading.{Reading, ◌>>=◌, instead_of, read_list, only, read_optional, read_required, under, read_or}
 use Rattle.wit_json_reading.specs.Tables.{read_named}
 use Rattle.wit_json_reading.specs.Values.{nullable, read_number, read_text}
 use Rattle.wit_json_reading.specs.declared.fault.Expected.TheVariants as expected
 use Rattle.wit_json_reading.specs.declared.fault.Step.TheVariants as step
 
--- the package that something belongs to, none where it is left out or `null`
-unfoldable pub read_home : Json → Reading (Option ℕ)
-read_home j = do
-  home ← read_optional (nullable read_number) (codes "package") j
-  Ok (unwrap_or home None)
-
-abbrev pub interface_members : List (List ℕ)
-interface_members =
-    codes "name" ∷ codes "types" ∷ codes "functions" ∷ codes "docs" ∷ codes "stability"
-    ∷ codes "package" ∷ codes "span" ∷ []
-
+-- it belongs to no package where that is left out or `null`
 unfoldable pub read_interface : Json → Reading Interface
 read_interface j = do
-  _ ← only interface_members j
+  _ ← only (codes "name" ∷ codes "types" ∷ codes "functions" ∷ codes "docs" ∷ codes "stability"
+      ∷ codes "package" ∷ codes "span" ∷ []) j
   name ← read_required (nullable read_text) (codes "name") j
   types ← read_required (read_named read_number) (codes "types") j
   functions ← read_required (read_named read_function) (codes "functions") j
   docs ← read_docs j
   stability ← read_stability j
-  home ← read_home j
+  home ← read_or (nullable read_number) None (codes "package") j
   span ← read_span j
   Ok (record {
     name = name;
@@ -82,16 +72,13 @@ abbrev pub read_type_entry : Json → Reading WorldItem
 read_type_entry (json.object ms) = read_placed_type (json.object ms)
 read_type_entry j = read_number j >>= λ id. Ok (item.Type_ id None)
 
+-- what a world imports or exports
 abbrev pub read_item_by : List ℕ → Json → Reading WorldItem
 read_item_by name j =
     if bytes_eq name (codes "interface") then read_interface_entry j
     else if bytes_eq name (codes "function") then (read_function j >>= λ f. Ok (item.Function f))
     else if bytes_eq name (codes "type") then read_type_entry j
     else instead_of expected.Entry
-
--- what a world imports or exports
-unfoldable pub read_item : Json → Reading WorldItem
-read_item j = read_variant read_item_by expected.Entry j
 
 -- a name without a mark: the key of an interface where it is `interface-` and its id, else a label
 abbrev pub plain_key : List ℕ → WorldItem → WorldKey
@@ -100,13 +87,10 @@ plain_key name (item.Interface id stability docs span external_id) =
 plain_key name (item.Function f) = key.Name name
 plain_key name (item.Type_ id span) = key.Name name
 
--- the label behind the mark `%`, where a name begins with that
-abbrev pub marked_label : List ℕ → Option (List ℕ)
-marked_label name = if starts_with nat_eq name (codes "%") then Some (drop 1 name) else None
-
--- the key of an entry under a name: the label that is marked, or what the name says without a mark
+-- the key of an entry under a name: the label behind the mark `%`, or what the name says without that mark
 abbrev pub read_key : List ℕ → WorldItem → WorldKey
-read_key name entry = option_map_or key.Name (marked_label name) (plain_key name entry)
+read_key name entry =
+    if starts_with nat_eq name (codes "%") then key.Name (drop 1 name) else plain_key name entry
 
 -- an entry behind those that are there, under a key that isn't there yet
 abbrev pub with_entry : List ℕ → WorldItem → List (WorldKey × WorldItem)
@@ -116,18 +100,13 @@ with_entry name entry entries =
     (instead_of expected.NoSecondMember)
     else Ok (entries ++ (read_key name entry, entry) ∷ [])
 
--- the entry of a member behind those that are there
-abbrev pub with_member : List ℕ → Json → List (WorldKey × WorldItem)
-    → Reading (List (WorldKey × WorldItem))
-with_member name j entries =
-    under (step.Member name) (read_item j) >>= λ entry. with_entry name entry entries
-
 -- the entries of members, behind those that are there
 abbrev pub entries_from : List (WorldKey × WorldItem) → Members
     → Reading (List (WorldKey × WorldItem))
 entries_from entries json.no_members = Ok entries
 entries_from entries (json.member name j ms) =
-    with_member name j entries >>= λ more. entries_from more ms
+    (under (step.Member name) (read_variant read_item_by expected.Entry j)
+    >>= λ entry. with_entry name entry entries) >>= λ more. entries_from more ms
 
 -- no name is one of the earlier ones, or stands twice
 abbrev pub names_differ : List (List ℕ) → Members → Reading (Unit {0})
@@ -160,27 +139,18 @@ read_include j = do
   span ← read_span j
   Ok (record { stability = stability; id = id; names = names; span = span })
 
--- what a world includes, nothing where it is left out
-unfoldable pub read_includes : Json → Reading (List WorldInclude)
-read_includes j = do
-  includes ← read_optional (read_list read_include) (codes "includes") j
-  Ok (unwrap_or includes [])
-
-abbrev pub world_members : List (List ℕ)
-world_members =
-    codes "name" ∷ codes "imports" ∷ codes "exports" ∷ codes "includes" ∷ codes "docs"
-    ∷ codes "stability" ∷ codes "package" ∷ codes "span" ∷ []
-
+-- it includes nothing, and belongs to no package, where that is left out
 unfoldable pub read_world : Json → Reading World
 read_world j = do
-  _ ← only world_members j
+  _ ← only (codes "name" ∷ codes "imports" ∷ codes "exports" ∷ codes "includes" ∷ codes "docs"
+      ∷ codes "stability" ∷ codes "package" ∷ codes "span" ∷ []) j
   name ← read_required read_text (codes "name") j
   imports ← read_required read_entries (codes "imports") j
   exports ← read_required read_entries (codes "exports") j
-  includes ← read_includes j
+  includes ← read_or (read_list read_include) [] (codes "includes") j
   docs ← read_docs j
   stability ← read_stability j
-  home ← read_home j
+  home ← read_or (nullable read_number) None (codes "package") j
   span ← read_span j
   Ok (record {
     name = name;

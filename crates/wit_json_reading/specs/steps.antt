@@ -1,1 +1,2 @@
 pub mod ByClosures
+pub mod Parts

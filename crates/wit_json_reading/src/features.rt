@@ -1,6 +1,7 @@
 //! Features and rules of tracks.
-ghost use Rattle.std.specs.Prelude.{◌≡◌, [], IfOk};
-ghost use Rattle.wit_json_reading.specs.Features.{read_features, read_names, rule_in, read_rule, names_with};
+ghost use Rattle.std.specs.Prelude.{◌≡◌, [], IfOk, fold};
+ghost use Rattle.json.specs.Json as json;
+ghost use Rattle.wit_json_reading.specs.Features.{read_features, read_names, read_rule, names_with};
 ghost use Rattle.wit_json_reading.specs.Reading.{Reads};
 
 use crate::fault::{Expected, ReadError, instead_of};
@@ -23,7 +24,7 @@ impl ReadJson for NameSet {
 
 /// The set of some names.
 fn names(alloc: Global, texts: &Items<Text>) -> Result<NameSet, AllocError>
-    ensures { IfOk result (λ names. names ≡ names_with [] texts.now) }
+    ensures { IfOk result (λ names. names ≡ fold names_with [] texts.now) }
 {
     let mut names = NameSet::new(alloc);
     for text in texts.as_slice() {
@@ -57,8 +58,9 @@ impl ReadJson for TrackRule {
 }
 
 /// The rule of tracks of a word.
+#[tactic(auto, unfolding(crate::specs::Features::read_rule))]
 fn rule_in(alloc: Global, word: &str) -> Result<TrackRule, ReadError>
-    ensures { Reads result (rule_in word.now) }
+    ensures { Reads result (read_rule (json.string word.now)) }
 {
     match word {
         "published" => Ok(TrackRule::Published),

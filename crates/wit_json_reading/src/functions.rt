@@ -1,7 +1,9 @@
 //! Functions.
+ghost use Rattle.json.specs.Json as json;
 ghost use Rattle.json.specs.Value.{value_view};
-ghost use Rattle.wit_json_reading.specs.Functions.{read_function_kind_by, read_function_kind, read_function, read_param, read_plain_function_kind, read_resource_kind};
+ghost use Rattle.wit_json_reading.specs.Functions.{read_function_kind, read_function, read_param, read_resource_kind};
 ghost use Rattle.wit_json_reading.specs.Reading.{Reads};
+ghost use Rattle.wit_json_reading.specs.steps.Parts.{read_function_kind_by};
 
 use crate::fault::{Expected, ReadError, in_member, instead_of};
 use crate::gates::{docs, span, stability};
@@ -27,8 +29,9 @@ impl ReadJson for FunctionKind {
 }
 
 /// A kind without a resource.
+#[tactic(auto, unfolding(crate::specs::Functions::read_function_kind))]
 fn plain_kind(alloc: Global, word: &str) -> Result<FunctionKind, ReadError>
-    ensures { Reads result (read_plain_function_kind word.now) }
+    ensures { Reads result (read_function_kind (json.string word.now)) }
 {
     match word {
         "freestanding" => Ok(FunctionKind::Freestanding),
@@ -40,7 +43,6 @@ fn plain_kind(alloc: Global, word: &str) -> Result<FunctionKind, ReadError>
 }
 
 /// A kind of a resource's function.
-#[tactic(auto, unfolding(crate::specs::Functions::read_function_kind_by))]
 fn kind(alloc: Global, name: &str, value: &Value<'_>) -> Result<FunctionKind, ReadError>
     ensures { Reads result (read_function_kind_by name.now (value_view value.now)) }
 {

@@ -1,6 +1,6 @@
 //! Spans, docs and feature gates.
-ghost use Rattle.std.specs.Prelude.{◌≡◌};
 ghost use Rattle.json.specs.Value.{value_view};
+ghost use Rattle.std.specs.Prelude.{◌≡◌};
 ghost use Rattle.wit_json_reading.specs.Gates.{read_contents, read_docs, read_gate_by, read_any_gate, read_place, read_range, read_span, read_stability, read_stable, read_unstable};
 ghost use Rattle.wit_json_reading.specs.Reading.{Reads};
 
@@ -39,7 +39,7 @@ fn range(alloc: Global, value: &Value<'_>) -> Result<Span, ReadError>
 }
 
 /// The span of an item, unknown where it is left out.
-#[tactic(auto, unfolding(crate::specs::Gates::read_span))]
+#[tactic(auto, unfolding(crate::specs::Gates::read_span, crate::specs::Reading::read_or))]
 pub fn span(alloc: Global, value: &Value<'_>) -> Result<Span, ReadError>
     ensures { Reads result (read_span (value_view value.now)) }
 {
@@ -62,7 +62,7 @@ impl ReadJson for Docs {
 }
 
 /// The docs of an item.
-#[tactic(auto, unfolding(crate::specs::Gates::read_docs))]
+#[tactic(auto, unfolding(crate::specs::Gates::read_docs, crate::specs::Reading::read_or))]
 pub fn docs(alloc: Global, value: &Value<'_>) -> Result<Docs, ReadError>
     ensures { Reads result (read_docs (value_view value.now)) }
 {
@@ -122,7 +122,7 @@ fn unstable(alloc: Global, value: &Value<'_>) -> Result<Stability, ReadError>
 }
 
 /// The gate of an item.
-#[tactic(auto, unfolding(crate::specs::Gates::read_stability))]
+#[tactic(auto, unfolding(crate::specs::Gates::read_stability, crate::specs::Reading::read_or))]
 pub(crate) fn stability(alloc: Global, value: &Value<'_>) -> Result<Stability, ReadError>
     ensures { Reads result (read_stability (value_view value.now)) }
 {

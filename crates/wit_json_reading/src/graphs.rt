@@ -1,5 +1,6 @@
 //! Graphs.
-ghost use Rattle.wit_json_reading.specs.Graphs.{read_graph, read_graph_package, homes_of, with_home};
+ghost use Rattle.std.specs.Prelude.{[]};
+ghost use Rattle.wit_json_reading.specs.Graphs.{read_graph, read_graph_package, homes_from, with_home};
 ghost use Rattle.wit_json_reading.specs.Reading.{Reads};
 
 use crate::fault::{Expected, ReadError, in_item, in_member, instead_of};
@@ -36,7 +37,7 @@ type PackageIds = Table<PackageName, PackageId>;
 
 /// Each package under its name, in order.
 fn homes(alloc: Global, packages: &Items<Package>) -> Result<PackageIds, ReadError>
-    ensures { Reads result (homes_of packages.now) }
+    ensures { Reads result (homes_from [] packages.now) }
 {
     let mut names = Table::new(alloc);
     for home in packages.as_slice() {

@@ -1,7 +1,8 @@
 //! Groups of packages with their files.
 ghost use Rattle.json.specs.Value.{value_view};
-ghost use Rattle.wit_json_reading.specs.Groups.{read_group, source_behind, read_source, read_sources, with_source};
+ghost use Rattle.wit_json_reading.specs.Groups.{read_group, read_source, read_sources, with_source};
 ghost use Rattle.wit_json_reading.specs.Reading.{Reads};
+ghost use Rattle.wit_json_reading.specs.steps.Parts.{source_behind};
 
 use crate::fault::{Expected, ReadError, in_item, instead_of};
 use crate::reader::{ReadJson, only, required};

@@ -1,8 +1,10 @@
 //! Unresolved packages.
-ghost use Rattle.std.specs.Prelude.{◌≡◌};
 ghost use Rattle.json.specs.Value.{value_view};
-ghost use Rattle.wit_json_reading.specs.Objects.{read_pair};
-ghost use Rattle.wit_json_reading.specs.Packages.{read_ast_item_by, read_ast_item, read_dep, read_deps, name_in, package_name_in, read_package_name, read_package, version_behind, with_dep};
+ghost use Rattle.std.specs.Prelude.{◌≡◌};
+ghost use Rattle.json.specs.Json as json;
+ghost use Rattle.wit_json_reading.specs.Objects.{read_pair, read_variant};
+ghost use Rattle.wit_json_reading.specs.declared.fault.Expected.TheVariants as expected;
+ghost use Rattle.wit_json_reading.specs.Packages.{read_ast_item_by, read_dep, read_deps, name_in, read_package_name, read_package, version_behind, with_dep};
 ghost use Rattle.wit_json_reading.specs.Reading.{Reads};
 
 use crate::fault::{Expected, ReadError, in_member, instead_of};
@@ -29,9 +31,9 @@ impl ReadJson for PackageName {
 }
 
 /// The name that a text is.
-#[tactic(auto, unfolding(crate::specs::Packages::package_name_in))]
+#[tactic(auto, unfolding(crate::specs::Packages::read_package_name))]
 fn package_name(alloc: Global, text: &str) -> Result<PackageName, ReadError>
-    ensures { Reads result (package_name_in text.now) }
+    ensures { Reads result (read_package_name (json.string text.now)) }
 {
     match text.split_once(':') {
         Some((namespace, rest)) => name_in_namespace(alloc, namespace, rest),
@@ -64,9 +66,8 @@ fn version_behind(alloc: Global, text: &str) -> Result<Option<Version>, ReadErro
 }
 
 impl ReadJson for AstItem {
-    ghost reading = { read_ast_item };
+    ghost reading = { read_variant read_ast_item_by expected.ForeignItem };
 
-    #[tactic(auto, unfolding(crate::specs::Packages::read_ast_item))]
     fn read_json(alloc: Global, value: &Value<'_>) -> Result<AstItem, ReadError> {
         match one_member(value) {
             Some((name, id)) => in_member(alloc, ast_item(alloc, name, id), name),

@@ -1,9 +1,13 @@
 //! Types.
-ghost use Rattle.std.specs.Prelude.{◌≡◌};
+ghost use Rattle.std.specs.Prelude.{Ok, ◌≡◌};
+ghost use Rattle.json.specs.Json as json;
 ghost use Rattle.json.specs.Value.{value_view};
+ghost use Rattle.wit_json_reading.specs.Objects.{read_variant};
+ghost use Rattle.wit_json_reading.specs.declared.fault.Expected.TheVariants as expected;
 ghost use Rattle.wit_json_reading.specs.Reading.{Reads};
+ghost use Rattle.wit_json_reading.specs.steps.Parts.{read_fixed_length_list, read_map};
 ghost use Rattle.wit_json_reading.specs.Values.{read_number};
-ghost use Rattle.wit_json_reading.specs.Types.{by_id, read_case, read_enum_case, read_field, read_fixed_length_list, read_flag, read_handle_by, read_handle, read_kind_by, read_kind, read_map, read_owner_by, read_owner, read_plain_kind, read_primitive, read_result, read_type_def, read_type};
+ghost use Rattle.wit_json_reading.specs.Types.{by_id, read_case, read_enum_case, read_field, read_flag, read_handle_by, read_kind_by, read_kind, read_owner_by, read_owner, read_result, read_type_def, read_type};
 
 use crate::fault::{Expected, ReadError, in_member, instead_of};
 use crate::gates::{docs, span, stability};
@@ -39,8 +43,9 @@ fn by_id(alloc: Global, value: &Value<'_>) -> Result<Type_, ReadError>
 }
 
 /// The primitive of a name.
+#[tactic(auto, unfolding(crate::specs::Types::read_type))]
 fn primitive(alloc: Global, word: &str) -> Result<Type_, ReadError>
-    ensures { Reads result (read_primitive word.now) }
+    ensures { Reads result (read_type (json.string word.now)) }
 {
     match word {
         "bool" => Ok(Type_::Bool),
@@ -126,9 +131,8 @@ impl ReadJson for EnumCase {
 }
 
 impl ReadJson for Handle {
-    ghost reading = { read_handle };
+    ghost reading = { read_variant read_handle_by expected.Handle };
 
-    #[tactic(auto, unfolding(crate::specs::Types::read_handle))]
     fn read_json(alloc: Global, value: &Value<'_>) -> Result<Handle, ReadError> {
         match one_member(value) {
             Some((name, id)) => in_member(alloc, handle(alloc, name, id), name),
@@ -190,8 +194,9 @@ impl ReadJson for TypeDefKind {
 }
 
 /// A kind without parts.
+#[tactic(auto, unfolding(crate::specs::Types::read_kind))]
 fn plain_kind(alloc: Global, word: &str) -> Result<TypeDefKind, ReadError>
-    ensures { Reads result (read_plain_kind word.now) }
+    ensures { Reads result (read_kind (json.string word.now)) }
 {
     match word {
         "resource" => Ok(TypeDefKind::Resource),
@@ -244,7 +249,6 @@ fn result(alloc: Global, value: &Value<'_>) -> Result<TypeDefKind, ReadError>
     Ok(TypeDefKind::Result_ { ok, err })
 }
 
-#[tactic(auto, unfolding(crate::specs::Types::read_map))]
 fn map(alloc: Global, value: &Value<'_>) -> Result<TypeDefKind, ReadError>
     ensures { Reads result (read_map (value_view value.now)) }
 {
@@ -252,7 +256,6 @@ fn map(alloc: Global, value: &Value<'_>) -> Result<TypeDefKind, ReadError>
     Ok(TypeDefKind::Map(key, item))
 }
 
-#[tactic(auto, unfolding(crate::specs::Types::read_fixed_length_list))]
 fn fixed_length_list(alloc: Global, value: &Value<'_>) -> Result<TypeDefKind, ReadError>
     ensures { Reads result (read_fixed_length_list (value_view value.now)) }
 {

@@ -1,9 +1,14 @@
 //! Interfaces and worlds.
-ghost use Rattle.std.specs.Prelude.{◌≡◌, ◌++◌, [], IfOk, codes, decimal, bytes_eq};
+ghost use Rattle.std.specs.Prelude.{◌≡◌, ◌++◌, [], IfOk, codes, decimal, bytes_eq, None, Some, drop, nat_eq, if◌then◌else◌};
 ghost use Rattle.std.specs.Option.{option_copied};
+ghost use Rattle.std.specs.List.{starts_with};
 ghost use Rattle.json.specs.Value.{members_view, value_view};
-ghost use Rattle.wit_json_reading.specs.Reading.{Reads};
-ghost use Rattle.wit_json_reading.specs.Worlds.{read_entries, read_home, read_include_name, read_include, read_includes, read_interface_entry, read_interface, read_item_by, read_item, read_key, marked_label, names_differ, read_placed_type, plain_key, read_type_entry, with_entry, with_member, read_world};
+ghost use Rattle.wit_json_reading.specs.Objects.{read_variant};
+ghost use Rattle.wit_json_reading.specs.Values.{nullable, read_number};
+ghost use Rattle.wit_json_reading.specs.declared.fault.Expected.TheVariants as expected;
+ghost use Rattle.wit_json_reading.specs.Reading.{Reads, read_list, read_or};
+ghost use Rattle.wit_json_reading.specs.steps.Parts.{entry_behind};
+ghost use Rattle.wit_json_reading.specs.Worlds.{read_entries, read_include_name, read_include, read_interface_entry, read_interface, read_item_by, read_key, names_differ, read_placed_type, plain_key, read_type_entry, with_entry, read_world};
 
 use crate::fault::{Expected, ReadError, in_member, instead_of};
 use crate::gates::{docs, span, stability};
@@ -17,9 +22,10 @@ use wit_data::{
 use wit_values::{Items, NameSet, Table, Text};
 
 /// The package that something belongs to, none where it is left out.
-#[tactic(auto, unfolding(crate::specs::Worlds::read_home))]
+#[tactic(auto, unfolding(crate::specs::Reading::read_or))]
 fn home(alloc: Global, value: &Value<'_>) -> Result<Option<PackageId>, ReadError>
-    ensures { Reads result (read_home (value_view value.now)) }
+    ensures { Reads result
+        (read_or (nullable read_number) None (codes "package") (value_view value.now)) }
 {
     match optional::<Option<PackageId>>(alloc, value, "package")? {
         Some(home) => Ok(home),
@@ -65,9 +71,8 @@ impl ReadJson for Interface {
 }
 
 impl ReadJson for WorldItem {
-    ghost reading = { read_item };
+    ghost reading = { read_variant read_item_by expected.Entry };
 
-    #[tactic(auto, unfolding(crate::specs::Worlds::read_item))]
     fn read_json(alloc: Global, value: &Value<'_>) -> Result<WorldItem, ReadError> {
         match one_member(value) {
             Some((name, entry)) => in_member(alloc, item(alloc, name, entry), name),
@@ -145,7 +150,8 @@ fn key(alloc: Global, name: &str, entry: &WorldItem) -> Result<WorldKey, AllocEr
 
 /// The label that stands behind a mark, where there is one.
 fn marked_label(name: &str) -> Option<&str>
-    ensures { option_copied result ≡ marked_label name.now }
+    ensures { option_copied result
+        ≡ (if starts_with nat_eq name.now (codes "%") then Some (drop 1 name.now) else None) }
 {
     name.strip_prefix("%")
 }
@@ -212,7 +218,7 @@ fn with_member(
     value: &Value<'_>,
     entries: Table<WorldKey, WorldItem>,
 ) -> Result<Table<WorldKey, WorldItem>, ReadError>
-    ensures { Reads result (with_member name.now (value_view value.now) entries) }
+    ensures { Reads result (entry_behind name.now (value_view value.now) entries) }
 {
     let entry = in_member(alloc, ReadJson::read_json(alloc, value), name)?;
     with_entry(alloc, name, entry, entries)
@@ -267,9 +273,10 @@ impl ReadJson for WorldInclude {
 }
 
 /// What a world includes, nothing where it is left out.
-#[tactic(auto, unfolding(crate::specs::Worlds::read_includes))]
+#[tactic(auto, unfolding(crate::specs::Reading::read_or))]
 fn includes(alloc: Global, value: &Value<'_>) -> Result<Items<WorldInclude>, ReadError>
-    ensures { Reads result (read_includes (value_view value.now)) }
+    ensures { Reads result
+        (read_or (read_list read_include) [] (codes "includes") (value_view value.now)) }
 {
     match optional(alloc, value, "includes")? {
         Some(includes) => Ok(includes),

@@ -10,9 +10,10 @@ use Rattle.wit_script_package.specs.Naming.{OptionalSpan}
 use Rattle.wit_script_package.specs.declared.mention.Mention.{Mention}
 use Rattle.wit_script_lines.specs.declared.statement.Statement.{Statement}
 use Rattle.wit_script_lines.specs.declared.statement.Statement.TheVariants as says
-use Rattle.wit_script.specs.Script.{mentions_past, mentions_with}
+use Rattle.wit_script.specs.Script.{mentions_with}
 use Rattle.wit_script.specs.steps.Script.{mentions_then}
 use Rattle.wit_script.specs.declared.ahead.Ahead.{Ahead}
+use Rattle.wit_script.specs.steps.Parts.{mentions_past}
 
 -- what a line of the package mentions, where it fits into its file, and the lines after it
 abbrev mentions_at_line : PackageLine → Stability → ℕ → (ℕ → List Mention) → Option OptionalSpan → List Mention

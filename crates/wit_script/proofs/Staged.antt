@@ -10,9 +10,10 @@ use Rattle.wit_resolve_graph.specs.Step.{command_of}
 use Rattle.wit_resolve_graph.specs.declared.command.Command.TheVariants.{Merge}
 use Rattle.wit_script_lines.specs.declared.request.Request.{Request}
 use Rattle.wit_script_lines.specs.declared.request.Request.TheVariants as request
-use Rattle.wit_script.specs.Answer.{Answers, AnswersPrint, AnswersSelect, only_first, working_state}
+use Rattle.wit_script.specs.Answer.{Answers, only_first, working_state}
 use Rattle.wit_script.specs.steps.Answer.{AnswersCommand}
 use Rattle.wit_script.specs.declared.answer.Stage.{Stage}
+use Rattle.wit_script.specs.steps.Parts.{AnswersPrint, AnswersSelect}
 
 -- what a call answers that ends with these graphs is the answer to a command
 abbrev pub AreAnswers : {E : Type 0} → Stage → Request → Result (String Global) E → Stage → Type 0

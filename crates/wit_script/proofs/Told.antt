@@ -8,9 +8,10 @@ use Rattle.wit_graph_data.specs.declared.error_kind.ResolveErrorKind.TheVariants
 use Rattle.wit_names.specs.declared.package_name.PackageName.{PackageName}
 use Rattle.wit_graph_data.specs.Named.{package_named, world_named}
 use Rattle.wit_queries.specs.Selection.{IsSelection}
-use Rattle.wit_script.specs.Answer.{AnswersPrint, AnswersSelect, refusal_text, selected_text}
+use Rattle.wit_script.specs.Answer.{refusal_text}
 use Rattle.wit_script.specs.steps.Answer.{IsResultLine}
 use Rattle.wit_script.specs.World.{world_text_at}
+use Rattle.wit_script.specs.steps.Parts.{selected_text, AnswersPrint, AnswersSelect}
 
 -- a world that is there
 pub printed_some : {E : Type 0} (g : Graph) (owner : PackageName) (world : List ℕ) (id : ℕ) (answer : Result (String Global) ResolveErrorKind) (told : Result (String Global) E)

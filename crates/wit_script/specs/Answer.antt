@@ -3,7 +3,6 @@
 use Rattle.std.specs.Prelude.{◌≡◌, ◌⊎◌, ℕ, Bool, false, List, [], ◌∷◌, ◌++◌, Option, None, Some, Result, Ok, Err, slice_get, codes, is_some, unwrap_or, if◌then◌else◌, MatchOption, decimal}
 use Rattle.std.specs.Option.{option_map_or}
 use Rattle.wit_commands.specs.Change.{is_setting}
-use Rattle.wit_commands.specs.declared.change.Change.{Change}
 use Rattle.wit_graph_data.specs.Error.{error_number}
 use Rattle.wit_graph_data.specs.ErrorText.{kind_text}
 use Rattle.wit_graph_data.specs.declared.graph.Graph.{Graph}
@@ -11,7 +10,6 @@ use Rattle.wit_graph_data.specs.declared.graph.Package.{Package}
 use Rattle.wit_graph_data.specs.declared.error_kind.ResolveErrorKind.{ResolveErrorKind}
 use Rattle.wit_graph_data.specs.declared.error_kind.ResolveErrorKind.TheVariants.{OutOfMemory}
 use Rattle.wit_names.specs.PackageName.{package_name_text}
-use Rattle.wit_names.specs.declared.package_name.PackageName.{PackageName}
 use Rattle.wit_script_lines.specs.declared.request.Request.{Request}
 use Rattle.wit_script_lines.specs.declared.request.Request.TheVariants as request
 pub use Rattle.wit_queries.specs.Selection.{IsSelection}
@@ -30,16 +28,13 @@ refusal_text kind =
     codes "refused "
     ++ (decimal (error_number kind) ++ (codes " " ++ (kind_text kind ++ codes "\n")))
 
--- `pushed PKG`
-abbrev pub pushed_text : Graph → ℕ → List ℕ
-pushed_text g id =
-    option_map_or (λ (p : Package). codes "pushed " ++ (package_name_text p.name ++ codes "\n"))
-    (slice_get g.packages id) []
-
--- the line of a reply, in the state after it; what sets something says nothing where it is carried out
+-- the line of a reply, in the state after it: `pushed PKG` of a package that is pushed; what sets something says nothing where
+-- it is carried out
 abbrev pub reply_text : Bool → Graph → Reply → List ℕ
 reply_text is_set g reply.Done = if is_set then [] else codes "done\n"
-reply_text is_set g (reply.Pushed id) = pushed_text g id
+reply_text is_set g (reply.Pushed id) =
+    option_map_or (λ (p : Package). codes "pushed " ++ (package_name_text p.name ++ codes "\n"))
+    (slice_get g.packages id) []
 reply_text is_set g (reply.Merged remap) = codes "merged\n"
 reply_text is_set g reply.NoWorld = codes "no world\n"
 reply_text is_set g (reply.Refused kind) = refusal_text kind
@@ -77,34 +72,24 @@ CarriesOut before _ _ after = ⊥
 
 -- ---- answers
 
--- `print`: the world, or want of memory; `no world` where it isn't there
-abbrev pub AnswersPrint : Graph → PackageName → List ℕ → List ℕ → Type 0
-AnswersPrint g owner world text =
-    MatchOption (world_named g owner world) (text ≡ codes "no world\n")
-    (λ id. (text ≡ world_text_at g id) ⊎ (text ≡ refusal_text OutOfMemory))
-
--- `selected ID`
-abbrev pub selected_text : Graph → ℕ → List ℕ
-selected_text g id = codes "selected " ++ (world_id_text_at g id ++ codes "\n")
-
--- the line of a choice
+-- the line of a choice: `selected ID`, or a refusal
 abbrev pub choice_text : Graph → Result ℕ ResolveErrorKind → List ℕ
-choice_text g (Ok world) = selected_text g world
+choice_text g (Ok world) = codes "selected " ++ (world_id_text_at g world ++ codes "\n")
 choice_text g (Err kind) = refusal_text kind
 
--- `select`: what `select_world` chooses of a package, or says, or want of memory; `no package` where the package isn't there
-abbrev pub AnswersSelect : Graph → PackageName → Option (List ℕ) → List ℕ → Type 0
-AnswersSelect g owner said text =
-    MatchOption (package_named g owner) (text ≡ codes "no package\n")
-    (λ id. (choice : Result ℕ ResolveErrorKind) × IsSelection g (id ∷ []) said choice
-    × (text ≡ choice_text g choice))
-
--- what is printed of a command, by its reply and the graph on which commands work after it
+-- what is printed of a command, by its reply and the graph on which commands work after it. `print` shows the world, or says
+-- want of memory, or `no world` where it isn't there; `select` says what `select_world` chooses of a package, or why it
+-- chooses none, or `no package` where the package isn't there
 abbrev pub IsAnswer : Graph → Request → Option Reply → List ℕ → Type 0
 IsAnswer g (request.Change change) (Some reply) text = text ≡ reply_text (is_setting change) g reply
 IsAnswer g request.Merge (Some reply) text = text ≡ reply_text false g reply
-IsAnswer g (request.Print owner world) reply text = AnswersPrint g owner world text
-IsAnswer g (request.Select owner said) reply text = AnswersSelect g owner said text
+IsAnswer g (request.Print owner world) reply text =
+    MatchOption (world_named g owner world) (text ≡ codes "no world\n")
+    (λ id. (text ≡ world_text_at g id) ⊎ (text ≡ refusal_text OutOfMemory))
+IsAnswer g (request.Select owner said) reply text =
+    MatchOption (package_named g owner) (text ≡ codes "no package\n")
+    (λ id. (choice : Result ℕ ResolveErrorKind) × IsSelection g (id ∷ []) said choice
+    × (text ≡ choice_text g choice))
 IsAnswer g _ _ text = text ≡ []
 
 -- the answer to a command, and the graphs after it

@@ -1,5 +1,5 @@
 -- Which commands may be asked: packages that are pushed have their shape, and of `other` and `merge` each comes where it may.
-use Rattle.std.specs.Prelude.{Bool, true, false, List, [], ◌∷◌, Option, Some, None, IsTrue, is_some, option_and_then}
+use Rattle.std.specs.Prelude.{Bool, true, false, List, Option, Some, None}
 use Rattle.std.specs.List.{AllByRecursion}
 use Rattle.wit_resolve_graph.specs.Step.{IsCommandShaped, command_of}
 use Rattle.wit_script_lines.specs.declared.request.Request.{Request}
@@ -25,13 +25,3 @@ other_after request.Other false = Some true
 other_after request.Merge true = Some false
 other_after request.Merge false = None
 other_after _ other = Some other
-
--- the same after some commands
-abbrev pub other_after_all : List Request → Bool → Option Bool
-other_after_all [] other = Some other
-other_after_all (command ∷ commands) other =
-    option_and_then (other_after_all commands) (other_after command other)
-
--- commands can be asked, each after those before it
-abbrev pub CanAllBeAsked : List Request → Bool → Type 0
-CanAllBeAsked commands other = IsTrue (is_some (other_after_all commands other))

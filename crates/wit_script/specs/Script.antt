@@ -1,7 +1,7 @@
 -- A script, line by line: what the lines make, which scripts are understood, what they ask, and which line of another is
 -- the first that isn't understood.
 use Rattle.std.specs.Option.{option_map_or}
-use Rattle.std.specs.Prelude.{◌≡◌, ◌⊎◌, ◌||◌, ℕ, zero, suc, ◌+◌, ◌<◌, Bool, false, List, [], ◌∷◌, ◌++◌, length, Option, Some, None, IsTrue, is_some, option_and_then, if◌then◌else◌, option_map, option_to_list}
+use Rattle.std.specs.Prelude.{◌≡◌, ◌⊎◌, ◌||◌, ℕ, zero, suc, ◌+◌, ◌<◌, false, List, [], ◌∷◌, ◌++◌, length, Option, Some, None, IsTrue, is_some, option_and_then, if◌then◌else◌, option_map, option_to_list}
 use Rattle.wit_names.specs.declared.package_name.PackageName.{PackageName}
 use Rattle.wit_data.specs.declared.stability.Stability.{Stability}
 use Rattle.wit_data.specs.declared.unresolved.UnresolvedPackageGroup.{UnresolvedPackageGroup}
@@ -22,32 +22,22 @@ use Rattle.wit_script.specs.declared.fault.ReadFault.{ReadFault}
 use Rattle.wit_script.specs.declared.fault.ReadFault.TheVariants as read_fault
 use Rattle.wit_script.specs.declared.reader.Reading.{Reading}
 use Rattle.wit_script_package.specs.Mention.{mentions_of}
-use Rattle.wit_script_package.specs.Naming.{OptionalSpan}
 use Rattle.wit_script_package.specs.declared.mention.Mention.{Mention}
 
 -- What the lines of a package mention of other packages, looked at ahead, since what is foreign stands first in a package.
 
--- what a line mentions, and the lines after it, where it is a line of the package and fits into its file
-abbrev pub mentions_by : ℕ → List ℕ → (ℕ → List Mention) → Statement → List Mention
-mentions_by at line after (says.Package name) = []
-mentions_by at line after (says.Line said gate) =
-    option_map_or (λ span. mentions_of said gate span ++ after (at + length line + 1))
-    (span_after at line) []
-mentions_by at line after says.Push = []
-mentions_by at line after (says.Request asked) = []
-
--- what the lines after one mention that itself mentions nothing, where it fits into the file
-abbrev pub mentions_past : ℕ → (ℕ → List Mention) → Option OptionalSpan → List Mention
-mentions_past next after None = []
-mentions_past next after (Some span) = after next
-
--- a line that isn't understood is passed over: it mentions nothing, and those behind it are looked at. (What these mention
--- changes no answer: the script isn't understood at that line at the latest)
+-- what a line mentions, and the lines after it, where it is a line of the package and fits into its file. A line that isn't
+-- understood is passed over: it mentions nothing, and those behind it are looked at. (What these mention changes no answer: the
+-- script isn't understood at that line at the latest)
 abbrev pub mentions_with : ℕ → List ℕ → (ℕ → List Mention) → Option (Option Statement)
     → List Mention
-mentions_with at line after None = mentions_past (at + length line + 1) after (span_after at line)
+mentions_with at line after None =
+    option_map_or (λ span. after (at + length line + 1)) (span_after at line) []
 mentions_with at line after (Some None) = after at
-mentions_with at line after (Some (Some said)) = mentions_by at line after said
+mentions_with at line after (Some (Some (says.Line said gate))) =
+    option_map_or (λ span. mentions_of said gate span ++ after (at + length line + 1))
+    (span_after at line) []
+mentions_with at line after (Some (Some _)) = []
 
 -- what lines mention up to the end of the package, or to the first that doesn't fit into its file, which has so many bytes
 -- before them

@@ -9,17 +9,13 @@ use Rattle.wit_data.specs.declared.world.WorldKey.{WorldKey}
 use Rattle.wit_data.specs.declared.world.WorldItem.TheVariants as item
 use Rattle.wit_data.specs.declared.world.WorldKey.TheVariants as key
 
--- an entry under a label: an interface with its id text where it is named
-abbrev pub labelled_text : Graph → List ℕ → WorldItem → List ℕ
-labelled_text g label (item.Interface id stability docs span external_id) =
+-- an entry: an interface key by its id text; under a label an interface with its id text where it is named
+abbrev pub entry_text : Graph → WorldKey → WorldItem → List ℕ
+entry_text g (key.Name label) (item.Interface id stability docs span external_id) =
     option_map_or (λ text. label ++ (codes " = " ++ text))
     (interface_id_at g.packages g.interfaces id) label
-labelled_text g label (item.Function function) = codes "func " ++ label
-labelled_text g label (item.Type_ id span) = codes "type " ++ label
-
--- an entry: an interface key by its id text
-abbrev pub entry_text : Graph → WorldKey → WorldItem → List ℕ
-entry_text g (key.Name label) entry = labelled_text g label entry
+entry_text g (key.Name label) (item.Function function) = codes "func " ++ label
+entry_text g (key.Name label) (item.Type_ id span) = codes "type " ++ label
 entry_text g (key.Interface id) entry = key_text g.packages g.interfaces (key.Interface id)
 
 -- the line of an entry: two spaces, `import` or `export`, a space, the entry
@@ -36,13 +32,11 @@ world_id_text g world =
 abbrev pub world_id_text_at : Graph → ℕ → List ℕ
 world_id_text_at g w = option_map_or (world_id_text g) (slice_get g.worlds w) []
 
--- the lines of a world: its id text, its imports, its exports
-abbrev pub world_text : Graph → World → List ℕ
-world_text g world =
-    codes "world " ++ (world_id_text g world ++ (codes "\n" ++
-    (flat_map (entry_line g (codes "import")) world.imports
-    ++ flat_map (entry_line g (codes "export")) world.exports)))
-
 -- the lines of world w: its id text, its imports, its exports
 abbrev pub world_text_at : Graph → ℕ → List ℕ
-world_text_at g w = option_map_or (world_text g) (slice_get g.worlds w) []
+world_text_at g w =
+    option_map_or (λ (world : World).
+    codes "world " ++ (world_id_text g world ++ (codes "\n" ++
+    (flat_map (entry_line g (codes "import")) world.imports
+    ++ flat_map (entry_line g (codes "export")) world.exports))))
+    (slice_get g.worlds w) []

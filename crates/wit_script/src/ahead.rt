@@ -5,10 +5,11 @@ ghost use Rattle.wit_script_package.specs.declared.mention.Mention.{Mention};
 ghost use Rattle.wit_script_lines.specs.Statement.{statement_of};
 ghost use Rattle.wit_script_lines.specs.declared.fault.LineFault.TheVariants.{NotUnderstood};
 ghost use Rattle.wit_script_lines.specs.declared.statement.Statement.TheVariants as says;
-ghost use Rattle.wit_script.specs.Script.{mentions_ahead, mentions_by, mentions_past, mentions_with};
+ghost use Rattle.wit_script.specs.Script.{mentions_ahead, mentions_with};
 ghost use Rattle.wit_script.specs.steps.Script.{mentions_then};
 ghost use Rattle.wit_script_package.specs.Draft.{span_after};
 ghost use Rattle.wit_script.specs.declared.ahead.Ahead.TheVariants as comes;
+ghost use Rattle.wit_script.specs.steps.Parts.{mentions_by, mentions_past};
 
 use std::alloc::{AllocError, Global};
 use wit_data::{Items, Stability};

@@ -3,12 +3,12 @@ ghost use Rattle.std.specs.Prelude.{◌≡◌, ◌≢◌, [], ◌∷◌, ℕ, No
 ghost use Rattle.wit_resolve_graph.specs.State.{new_state};
 ghost use Rattle.wit_resolve_graph.specs.Step.{IsCommandShaped, command_of};
 ghost use Rattle.wit_queries.specs.Selection.{IsSelection};
-ghost use Rattle.wit_script.specs.Answer.{Answers, AnswersPrint, AnswersSelect, InTurn, only_first, pushed_text, refusal_text, reply_text, selected_text, working_state};
+ghost use Rattle.wit_script.specs.Answer.{Answers, InTurn, only_first, refusal_text, reply_text, working_state};
 ghost use Rattle.wit_script.specs.steps.Answer.{AnswersCommand, IsResultLine};
-ghost use Rattle.wit_script.specs.Ready.{CanAllBeAsked};
-ghost use Rattle.wit_script.specs.steps.Ready.{CanBeAsked};
+ghost use Rattle.wit_script.specs.steps.Ready.{CanBeAsked, CanAllBeAsked};
 ghost use Rattle.wit_script.specs.declared.answer.Stage.{Stage};
 ghost use Rattle.wit_script_lines.specs.declared.request.Request.TheVariants as asked;
+ghost use Rattle.wit_script.specs.steps.Parts.{pushed_text, selected_text, AnswersPrint, AnswersSelect};
 
 use crate::printer::{print_world, world_id_text};
 use crate::ready::ReadyCommand;

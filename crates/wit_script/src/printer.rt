@@ -2,7 +2,8 @@
 ghost use Rattle.std.specs.Prelude.{◌≡◌, ◌++◌, IfErr, IfOk, OnOk, string_bytes};
 ghost use Rattle.std.specs.List.{flat_map};
 ghost use Rattle.wit_graph_data.specs.declared.error_kind.ResolveErrorKind.TheVariants.{OutOfMemory};
-ghost use Rattle.wit_script.specs.World.{world_id_text_at, world_text_at, entry_text, entry_line, labelled_text};
+ghost use Rattle.wit_script.specs.World.{world_id_text_at, world_text_at, entry_text, entry_line};
+ghost use Rattle.wit_script.specs.steps.Parts.{labelled_text};
 
 use std::alloc::Global;
 use std::fmt::Write;

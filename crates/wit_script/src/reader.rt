@@ -7,13 +7,14 @@ ghost use Rattle.wit_data.specs.Each.{Each};
 ghost use Rattle.wit_data.specs.declared.unresolved.UnresolvedPackageGroup.{UnresolvedPackageGroup};
 ghost use Rattle.wit_script_package.specs.steps.Built.{IsBuilt};
 ghost use Rattle.wit_script_package.specs.steps.Pushable.{IsPushable};
-ghost use Rattle.wit_script_lines.specs.Line.{is_blank_or_comment, last_statement_line};
+ghost use Rattle.wit_script_lines.specs.Line.{last_statement_line};
 ghost use Rattle.wit_script.specs.Ready.{AreReady, IsReady};
 ghost use Rattle.wit_script.specs.steps.BuiltReading.{AreBuilt, AreShapedIfPushable};
 ghost use Rattle.wit_script_package.specs.steps.DraftResult.{DraftResult};
 ghost use Rattle.wit_script.specs.Script.{HasReadFault, IsUnderstood, after_line, after_statement_in, new_reading, reading_of, with_groups, with_package, with_package_line, with_push, with_request};
 ghost use Rattle.wit_script.specs.steps.Ready.{IsReadyStatement};
 ghost use Rattle.wit_script.specs.steps.Script.{GoesOn, HasLineFault};
+ghost use Rattle.wit_script_lines.specs.steps.Parts.{is_blank_or_comment};
 
 use crate::ahead::mentions_ahead;
 use crate::fault::ReadFault;

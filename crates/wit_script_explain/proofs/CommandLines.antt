@@ -24,12 +24,13 @@ use Rattle.wit_script.specs.Ready.{other_after}
 use Rattle.wit_script.specs.Script.{IsUnderstood, after_line, after_lines, after_statement_in, mentions_ahead, new_reading, with_groups}
 use Rattle.wit_script.specs.steps.Parts.{with_asked, with_begun, with_current}
 use Rattle.wit_script.specs.declared.reader.Reading.{Reading}
-use Rattle.wit_script_explain.specs.Lines.{no_lines, script_lines_of, sort_of_statement, with_line, with_sort}
+use Rattle.wit_script_explain.specs.Lines.{script_lines_of, sort_of_statement, with_next_line, with_sort}
 use Rattle.wit_script_explain.specs.declared.lines.CommandPlace.{CommandPlace}
 use Rattle.wit_script_explain.specs.declared.lines.LineSort.{LineSort}
 use Rattle.wit_script_explain.specs.declared.lines.LineSort.TheVariants as sort
 use Rattle.wit_script_explain.specs.declared.lines.ScriptLines.{ScriptLines}
 use Rattle.wit_script_explain.specs.laws.CommandPlaces.{StandsAt, said_of}
+use Rattle.wit_script_explain.specs.steps.Parts.{no_lines}
 
 -- ---- two lists side by side
 
@@ -53,7 +54,7 @@ sort_by said = option_map_or sort_of_statement (option_flatten said) sort.Silent
 
 -- more lines
 abbrev with_lines : ScriptLines → List (List ℕ) → ScriptLines
-with_lines s lines = fold with_line s lines
+with_lines s lines = fold with_next_line s lines
 
 sort-lines : (s : ScriptLines) (what : LineSort) → (with_sort s what).lines ≡ s.lines
 sort-lines s sort.Silent = refl
@@ -65,7 +66,7 @@ sort-lines s sort.Request = refl
 lines-kept : (s : ScriptLines) (lines : List (List ℕ)) → (with_lines s lines).lines ≡ s.lines ++ lines
 lines-kept s [] = sym (append-nil s.lines)
 lines-kept s (line ∷ lines) =
-    lines-kept (with_line s line) lines ∙ ap (λ (t : List (List ℕ)). (t ++ line ∷ []) ++ lines) (sort-lines s (sort_by (statement_of line))) ∙ append_assoc s.lines (line ∷ []) lines
+    lines-kept (with_next_line s line) lines ∙ ap (λ (t : List (List ℕ)). (t ++ line ∷ []) ++ lines) (sort-lines s (sort_by (statement_of line))) ∙ append_assoc s.lines (line ∷ []) lines
 
 -- ---- commands
 
@@ -142,9 +143,9 @@ module _ (s : ScriptLines) (r : Reading) (line : List ℕ) (all : AllZip (Stands
 
 -- one more line
 one-line : (s : ScriptLines) (r next : Reading) (line : List ℕ) (ahead : List (List ℕ)) → AllZip (StandsAt s.lines) s.commands r.commands → after_line r line ahead ≡ Some next
-    → AllZip (StandsAt (with_line s line).lines) (with_line s line).commands next.commands
+    → AllZip (StandsAt (with_next_line s line).lines) (with_next_line s line).commands next.commands
 one-line s r next line ahead all made =
-    subst (λ (t : List (List ℕ)). AllZip (StandsAt (t ++ line ∷ [])) (with_line s line).commands next.commands) (sym (sort-lines s (sort_by (statement_of line))))
+    subst (λ (t : List (List ℕ)). AllZip (StandsAt (t ++ line ∷ [])) (with_next_line s line).commands next.commands) (sym (sort-lines s (sort_by (statement_of line))))
     (by s r line all (statement_of line) ahead next refl made)
 
 more-lines : (lines : List (List ℕ)) (s : ScriptLines) (r next : Reading) → AllZip (StandsAt s.lines) s.commands r.commands → after_lines r lines ≡ Some next
@@ -152,7 +153,7 @@ more-lines : (lines : List (List ℕ)) (s : ScriptLines) (r next : Reading) → 
 more-lines [] s r next all made = subst (λ (t : Reading). AllZip (StandsAt s.lines) s.commands t.commands) (same-some r next made) all
 more-lines (line ∷ lines) s r next all made =
     let p = step-of (λ (t : Reading). after_lines t lines) (after_line r line lines) next made in
-    more-lines lines (with_line s line) p.0 next (one-line s r p.0 line lines all p.1) p.2
+    more-lines lines (with_next_line s line) p.0 next (one-line s r p.0 line lines all p.1) p.2
 
 -- all lines of a script
 pub at_lines : (text : List ℕ) (commands : List Request) → IsUnderstood text commands → AllZip (StandsAt (lines_of text)) (script_lines_of (lines_of text)).commands commands

@@ -10,7 +10,7 @@ use Rattle.wit_script.specs.Answer.{InTurn, IsSelection}
 use Rattle.wit_script.specs.Script.{IsNotUnderstood, IsUnderstood}
 use Rattle.wit_script_lines.specs.Line.{lines_of}
 use Rattle.wit_script_explain.specs.Desk.{new_desk}
-use Rattle.wit_script_explain.specs.Explained.{ExplainsMisread, ExplainsPlaced, ExplainsScript, ExplainsSelect, with_places}
+use Rattle.wit_script_explain.specs.Explained.{ExplainsMisread, ExplainsPlaced, ExplainsScript, with_places}
 use Rattle.wit_script_explain.specs.Lines.{script_lines_of}
 use Rattle.wit_script_explain.specs.Misread.{IsMisreadText}
 use Rattle.wit_script_explain.specs.Refusals.{TellsRefusal}
@@ -19,6 +19,7 @@ use Rattle.wit_script_explain.specs.declared.desk.TrackedGraph.{TrackedGraph}
 use Rattle.wit_script_explain.specs.declared.lines.CommandPlace.{CommandPlace}
 use Rattle.wit_ways.specs.declared.asked.Asked.TheVariants.{Other}
 use Rattle.wit_script_explain.specs.declared.lines.ScriptLines.{ScriptLines}
+use Rattle.wit_script_explain.specs.steps.Parts.{ExplainsSelect}
 
 -- a choice that is refused, of a package that is there
 pub select-refused : {E : Type 0} (script : ScriptLines) (place : CommandPlace) (tracked : TrackedGraph) (owner : PackageName) (text : Option (List ℕ)) (id : ℕ) (kind : ResolveErrorKind) (told : Result (String Global) E)

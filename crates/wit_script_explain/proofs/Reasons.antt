@@ -2,8 +2,8 @@
 use Rattle.std.proofs.Common.{◌≡◌, ℕ, List, Result, Ok, Err, String, string_bytes}
 use Rattle.std.specs.Prelude.{IfOk}
 use Rattle.std.specs.declared.alloc.Global.{Global}
-use Rattle.wit_script_explain.specs.Misread.{misread_text}
 use Rattle.wit_script_explain.specs.declared.lines.ScriptLines.{ScriptLines}
+use Rattle.wit_script_explain.specs.steps.Parts.{misread_text}
 
 -- what is told with one reason is told with some
 pub some_reason : {E : Type 0} (told : Result (String Global) E) (script : ScriptLines) (index : ℕ) (reason : List ℕ)

@@ -8,7 +8,7 @@ use Rattle.wit_resolve_graph.specs.declared.command.Reply.{Reply}
 use Rattle.wit_script.specs.steps.Ready.{CanBeAsked}
 use Rattle.wit_script_lines.specs.declared.request.Request.{Request}
 use Rattle.wit_script_lines.specs.declared.request.Request.TheVariants as request
-use Rattle.wit_script_explain.specs.Desk.{coming_packages, new_tracked, with_files}
+use Rattle.wit_script_explain.specs.Desk.{new_tracked, with_file_starts}
 use Rattle.wit_script_explain.specs.Explained.{ExplainsCommand}
 use Rattle.wit_script_explain.specs.Refusals.{TellsReply, unless_refused}
 use Rattle.wit_script_explain.specs.steps.Explained.{ExplainsReply}
@@ -18,6 +18,7 @@ use Rattle.wit_script_explain.specs.declared.lines.CommandPlace.{CommandPlace}
 use Rattle.wit_script_explain.specs.declared.lines.ScriptLines.{ScriptLines}
 use Rattle.wit_script_explain.specs.declared.outcome.Outcome.{Outcome}
 use Rattle.wit_ways.specs.Asked.{asked_of}
+use Rattle.wit_script_explain.specs.steps.Parts.{coming_packages}
 
 module _ (script : ScriptLines) (place : CommandPlace) where
   -- a change of the second graph
@@ -27,7 +28,7 @@ module _ (script : ScriptLines) (place : CommandPlace) where
   second-changed desk change second new None text is_open told = absurd told
   second-changed desk change second new (Some reply) text is_open told =
       let coming = coming_packages script place in
-      let made : TrackedGraph = with_files (record second { resolve = told.0 }) coming (unless_refused (Some reply) coming) in
+      let made : TrackedGraph = with_file_starts (record second { resolve = told.0 }) coming (unless_refused (Some reply) coming) in
       let tells = subst (λ (t : TrackedGraph). TellsReply script place t (asked_of second.resolve (command_of change)) (Some reply) text) told.2 told.3 in
       let here : ExplainsCommand script place (record { first = desk.first; second = Some second }) (request.Change change) (Some reply) text (record { first = desk.first; second = Some made }) =
       ((told.0, told.1, refl), refl, tells) in
@@ -42,7 +43,7 @@ module _ (script : ScriptLines) (place : CommandPlace) where
   first-changed desk change new None text closed told = absurd told
   first-changed desk change new (Some reply) text closed told =
       let coming = coming_packages script place in
-      let made : TrackedGraph = with_files (record desk.first { resolve = told.0 }) coming (unless_refused (Some reply) coming) in
+      let made : TrackedGraph = with_file_starts (record desk.first { resolve = told.0 }) coming (unless_refused (Some reply) coming) in
       let tells = subst (λ (t : TrackedGraph). TellsReply script place t (asked_of desk.first.resolve (command_of change)) (Some reply) text) told.2 told.3 in
       let here : ExplainsCommand script place (record { first = desk.first; second = None }) (request.Change change) (Some reply) text (record { first = made; second = None }) =
       ((told.0, told.1, refl), refl, tells) in
@@ -56,7 +57,7 @@ module _ (script : ScriptLines) (place : CommandPlace) where
       → ExplainsCommand script place desk request.Merge reply text (record { first = new; second = None })
   second-merged desk second new None text is_open told = absurd told
   second-merged desk second new (Some reply) text is_open told =
-      let made : TrackedGraph = with_files (record desk.first { resolve = told.0 }) second.file_starts (unless_refused (Some reply) second.package_starts) in
+      let made : TrackedGraph = with_file_starts (record desk.first { resolve = told.0 }) second.file_starts (unless_refused (Some reply) second.package_starts) in
       let tells = subst (λ (t : TrackedGraph). TellsReply script place t (asked_of desk.first.resolve (Merge second.resolve)) (Some reply) text) told.2 told.3 in
       let here : ExplainsCommand script place (record { first = desk.first; second = Some second }) request.Merge (Some reply) text (record { first = made; second = None }) =
       ((second.resolve, told.0, refl, told.1, refl), refl, tells) in

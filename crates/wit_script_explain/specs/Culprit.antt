@@ -3,7 +3,6 @@
 use Rattle.std.specs.Prelude.{ℕ, ◌+◌, ◌-◌, ◌||◌, Bool, true, false, not, List, [], ◌∷◌, take, slice_get, Option, Some, None, if◌then◌else◌, bytes_eq}
 use Rattle.std.specs.Option.{option_flatten, option_map_or}
 use Rattle.wit_names.specs.UsePath.{is_kebab_name}
-use Rattle.wit_names.specs.declared.package_name.PackageName.{PackageName}
 use Rattle.wit_names.specs.declared.use_path.ParsedUsePath.{ParsedUsePath}
 use Rattle.wit_names.specs.declared.use_path.ParsedUsePath.TheVariants as path
 use Rattle.wit_script_lines.specs.Statement.{statement_of}
@@ -26,10 +25,6 @@ noted (Some first) bad index = Some first
 noted None true index = Some index
 noted None false index = None
 
--- a package is called by what is no kebab name
-abbrev pub names_badly : PackageName → Bool
-names_badly p = not (is_kebab_name p.namespace) || not (is_kebab_name p.name)
-
 -- a path names the world that is open
 abbrev pub includes : Option (List ℕ) → ParsedUsePath → Bool
 includes None from = false
@@ -49,32 +44,23 @@ world_after world (part.Interface name) = None
 world_after world (part.World name) = Some name
 world_after world _ = world
 
--- the search after a line of a package
-abbrev pub with_part : Search → ℕ → PackageLine → Search
-with_part s index said =
-    record
-    { found = noted s.found (is_at_fault s.world said) index; world = world_after s.world said }
-
--- the search after a line that says this; a command begins it anew
+-- the search after a line that says this; a command begins it anew. A package may be called by what is no kebab name
 abbrev pub with_said : Search → ℕ → Statement → Search
 with_said s index (says.Package name) =
-    record { found = noted s.found (names_badly name) index; world = None }
-with_said s index (says.Line said gate) = with_part s index said
+    let badly = not (is_kebab_name name.namespace) || not (is_kebab_name name.name) in
+    record { found = noted s.found badly index; world = None }
+with_said s index (says.Line said gate) =
+    record
+    { found = noted s.found (is_at_fault s.world said) index; world = world_after s.world said }
 with_said s index says.Push = no_search
 with_said s index (says.Request asked) = no_search
-
--- the search after a line
-abbrev pub with_line : Search → ℕ → List ℕ → Search
-with_line s index line = option_map_or (with_said s index) (option_flatten (statement_of line)) s
 
 -- the search after lines, of which the first has this index
 abbrev pub searched : Search → ℕ → List (List ℕ) → Search
 searched s index [] = s
-searched s index (line ∷ lines) = searched (with_line s index line) (index + 1) lines
-
--- the first line since the last command that names something by no kebab name, or includes the world in which it stands
-abbrev pub culprit : List (List ℕ) → Option ℕ
-culprit lines = (searched no_search 0 lines).found
+searched s index (line ∷ lines) =
+    searched (option_map_or (with_said s index) (option_flatten (statement_of line)) s) (index + 1)
+    lines
 
 abbrev pub is_push_sort : LineSort → Bool
 is_push_sort sort.Push = true
@@ -85,10 +71,12 @@ abbrev pub is_push : ScriptLines → ℕ → Bool
 is_push script index =
     option_map_or (λ line. is_push_sort (sort_of line)) (slice_get script.lines index) false
 
--- the index of the line at which what isn't understood stands, where the line of this number isn't
+-- the index of the line at which what isn't understood stands, where the line of this number isn't: of a `push` the first line
+-- since the last command that names something by no kebab name, or includes the world in which it stands
 abbrev pub fault_index : ScriptLines → ℕ → ℕ
 fault_index script number =
     if is_push script (number - 1)
-    then option_map_or (λ found. found) (culprit (take (number - 1) script.lines))
+    then option_map_or (λ found. found)
+    (searched no_search 0 (take (number - 1) script.lines)).found
     (number - 1)
     else number - 1

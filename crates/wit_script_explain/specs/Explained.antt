@@ -1,8 +1,7 @@
 -- What is told of a script: its refusals, and which commands name what isn't there, each with the lines at which it is; or the
 -- line at which it isn't understood.
-use Rattle.std.specs.Prelude.{◌≡◌, ℕ, Bool, true, false, List, [], ◌∷◌, length, Option, None, Some, Result, MatchOption, MatchResult, IsUtf8, codes}
+use Rattle.std.specs.Prelude.{◌≡◌, ℕ, Bool, true, false, List, [], ◌∷◌, length, Option, None, Some, Result, MatchOption, MatchResult, IsUtf8, codes, drop}
 use Rattle.std.specs.Option.{option_map_or}
-use Rattle.wit_names.specs.declared.package_name.PackageName.{PackageName}
 use Rattle.wit_graph_data.specs.Named.{package_named, world_named}
 use Rattle.wit_graph_data.specs.declared.error_kind.ResolveErrorKind.{ResolveErrorKind}
 use Rattle.wit_resolve_graph.specs.Step.{command_of}
@@ -14,7 +13,7 @@ use Rattle.wit_script.specs.declared.answer.Stage.{Stage}
 use Rattle.wit_script_lines.specs.declared.request.Request.{Request}
 use Rattle.wit_script_lines.specs.declared.request.Request.TheVariants as request
 use Rattle.wit_script_lines.specs.Line.{lines_of}
-use Rattle.wit_script_explain.specs.Desk.{coming_packages, graphs_of, new_desk, new_tracked, with_files, with_working, working}
+use Rattle.wit_script_explain.specs.Desk.{graphs_of, new_desk, new_tracked, with_file_starts, with_working, working}
 use Rattle.wit_script_explain.specs.Lines.{script_lines_of}
 use Rattle.wit_script_explain.specs.Misread.{IsMisreadText}
 use Rattle.wit_script_explain.specs.Refusals.{TellsRefusal, TellsReply, missing_text, unless_refused}
@@ -32,13 +31,14 @@ use Rattle.wit_ways.specs.declared.asked.Asked.TheVariants.{Other}
 -- script, those that `merge` brings are known of the second graph
 abbrev pub desk_after : ScriptLines → CommandPlace → Desk → Request → Option Reply → Stage → Desk
 desk_after script place before (request.Change change) reply now =
-    let coming = coming_packages script place in
-    with_working before (with_files (record (working before) { resolve = working_state now }) coming
+    let coming = drop place.packages script.packages in
+    with_working before
+    (with_file_starts (record (working before) { resolve = working_state now }) coming
     (unless_refused reply coming))
 desk_after script place before request.Merge reply now =
     option_map_or (λ (second : TrackedGraph).
     record {
-      first = with_files (record before.first { resolve = now.first }) second.file_starts
+      first = with_file_starts (record before.first { resolve = now.first }) second.file_starts
           (unless_refused reply second.package_starts);
       second = None;
     }) before.second before
@@ -52,25 +52,20 @@ asked_in before request.Merge =
     option_map_or (λ second. asked_of before.first (Merge second)) before.second Other
 asked_in before _ = Other
 
--- `select`: there is no such package, or a choice that may be made of it
-abbrev pub ExplainsSelect : ScriptLines → CommandPlace → TrackedGraph → PackageName
-    → Option (List ℕ) → List ℕ → Type 0
-ExplainsSelect script place tracked owner said text =
-    MatchOption (package_named tracked.resolve.graph owner)
-    (text ≡ missing_text script place (codes "no package"))
-    (λ id. (choice : Result ℕ ResolveErrorKind)
-    × IsSelection tracked.resolve.graph (id ∷ []) said choice
-    × MatchResult choice (λ world. text ≡ [])
-    (λ kind. TellsRefusal script place tracked Other kind text))
-
--- what is told of a command, by its reply and the graph on which commands work after it
+-- what is told of a command, by its reply and the graph on which commands work after it; of `select` that there is no such
+-- package, or a choice that may be made of it
 abbrev pub TellsCommand : ScriptLines → CommandPlace → TrackedGraph → Asked → Request
     → Option Reply → List ℕ → Type 0
 TellsCommand script place after asked (request.Print owner world) reply text =
     text ≡ option_map_or (λ w. []) (world_named after.resolve.graph owner world)
     (missing_text script place (codes "no world"))
 TellsCommand script place after asked (request.Select owner said) reply text =
-    ExplainsSelect script place after owner said text
+    MatchOption (package_named after.resolve.graph owner)
+    (text ≡ missing_text script place (codes "no package"))
+    (λ id. (choice : Result ℕ ResolveErrorKind)
+    × IsSelection after.resolve.graph (id ∷ []) said choice
+    × MatchResult choice (λ world. text ≡ [])
+    (λ kind. TellsRefusal script place after Other kind text))
 TellsCommand script place after asked _ reply text = TellsReply script place after asked reply text
 
 -- a command is carried out, the lines of its files are noted, and it is told

@@ -20,12 +20,9 @@ abbrev pub sort_of : List ℕ → LineSort
 sort_of line =
     option_map_or sort_of_statement (option_flatten (statement_of line)) sort.Silent
 
-abbrev pub no_lines : ScriptLines
-no_lines = record { lines = []; filed = []; packages = []; commands = []; pushed = 0 }
-
 -- a command in the line that comes next
-abbrev pub with_command : ScriptLines → Bool → ScriptLines
-with_command s is_push = record s {
+abbrev pub with_command_line : ScriptLines → Bool → ScriptLines
+with_command_line s is_push = record s {
   commands =
       s.commands ++ record { line = length s.lines; packages = s.pushed; is_push = is_push } ∷ [];
   pushed = length s.packages;
@@ -38,14 +35,16 @@ with_sort s sort.Package =
     record s
     { packages = s.packages ++ length s.filed ∷ []; filed = s.filed ++ length s.lines ∷ [] }
 with_sort s sort.Part = record s { filed = s.filed ++ length s.lines ∷ [] }
-with_sort s sort.Push = with_command s true
-with_sort s sort.Request = with_command s false
+with_sort s sort.Push = with_command_line s true
+with_sort s sort.Request = with_command_line s false
 
 -- one more line
-abbrev pub with_line : ScriptLines → List ℕ → ScriptLines
-with_line s line =
+abbrev pub with_next_line : ScriptLines → List ℕ → ScriptLines
+with_next_line s line =
     let noted = with_sort s (sort_of line) in record noted { lines = noted.lines ++ line ∷ [] }
 
 -- the lines of a script
 abbrev pub script_lines_of : List (List ℕ) → ScriptLines
-script_lines_of lines = fold with_line no_lines lines
+script_lines_of lines =
+    fold with_next_line
+    (record { lines = []; filed = []; packages = []; commands = []; pushed = 0 }) lines

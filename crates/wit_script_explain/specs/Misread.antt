@@ -5,16 +5,13 @@ use Rattle.wit_script_explain.specs.Culprit.{fault_index}
 use Rattle.wit_script_explain.specs.Shown.{snippet_text}
 use Rattle.wit_script_explain.specs.declared.lines.ScriptLines.{ScriptLines}
 
--- `line N: REASON`, and the line with a mark
-abbrev pub misread_text : ScriptLines → ℕ → List ℕ → List ℕ
-misread_text script index reason =
-    option_map_or (λ line.
+-- what is told where the line of this number isn't understood: `line N: REASON`, and the line with a mark
+abbrev pub IsMisreadText : ScriptLines → ℕ → List ℕ → Type 0
+IsMisreadText script number text =
+    let index = fault_index script number in
+    (reason : List ℕ)
+    × (text ≡ option_map_or (λ line.
     codes "line "
     ++ (decimal (index + 1)
     ++ (codes ": " ++ (reason ++ (codes "\n" ++ snippet_text (index + 1) line)))))
-    (slice_get script.lines index) []
-
--- what is told where the line of this number isn't understood
-abbrev pub IsMisreadText : ScriptLines → ℕ → List ℕ → Type 0
-IsMisreadText script number text =
-    (reason : List ℕ) × (text ≡ misread_text script (fault_index script number) reason)
+    (slice_get script.lines index) [])

@@ -10,8 +10,8 @@ use Rattle.wit_names.specs.PackageName.{package_name_text}
 use Rattle.wit_names.specs.declared.package_name.PackageName.{PackageName}
 use Rattle.wit_resolve_graph.specs.declared.command.Reply.{Reply}
 use Rattle.wit_resolve_graph.specs.declared.command.Reply.TheVariants as reply
-use Rattle.wit_script_explain.specs.Places.{defined_line, span_place}
-use Rattle.wit_script_explain.specs.Shown.{command_text, place_text}
+use Rattle.wit_script_explain.specs.Places.{defined_line}
+use Rattle.wit_script_explain.specs.Shown.{command_text, file_line_text, span_text}
 use Rattle.wit_script_explain.specs.Ways.{way_text}
 use Rattle.wit_script_explain.specs.declared.desk.TrackedGraph.{TrackedGraph}
 use Rattle.wit_script_explain.specs.declared.lines.CommandPlace.{CommandPlace}
@@ -20,17 +20,12 @@ use Rattle.wit_ways.specs.Told.{IsTold}
 use Rattle.wit_ways.specs.declared.arrow.Arrow.{Arrow}
 use Rattle.wit_ways.specs.declared.asked.Asked.{Asked}
 
--- the line of a span, or nothing where it is unknown
-abbrev pub span_text : ScriptLines → TrackedGraph → Option (ℕ × ℕ) → List ℕ
-span_text script tracked span =
-    option_map_or (place_text script) (span_place script tracked span) []
-
 -- the line of the other package of a name: that of its span, or, where that is unknown since the graph has the package, the
 -- line that began it
 abbrev pub other_text : ScriptLines → TrackedGraph → PackageName → Option (ℕ × ℕ) → List ℕ
 other_text script tracked name (Some range) = span_text script tracked (Some range)
 other_text script tracked name None =
-    option_map_or (λ index. place_text script (index, package_name_text name, index))
+    option_map_or (λ index. file_line_text script (index, package_name_text name, index))
     (defined_line script name tracked.package_starts) []
 
 -- the lines that a refusal names: of a package that is defined twice both
@@ -46,32 +41,21 @@ places_text script place tracked kind =
     if not place.is_push || (length named == 0) then named ++ command_text script place.line
     else named
 
--- `refused N TEXT`, the lines at which it is, its way, and the document that says more of N
-abbrev pub told_text : ℕ → List ℕ → List ℕ → List ℕ → List ℕ
-told_text number text places way =
-    codes "refused "
-    ++ (decimal number
-    ++ (codes " "
-    ++ (text
-    ++ (codes "\n"
-    ++ (places
-    ++ (way
-    ++ (codes "      = "
-    ++ (decimal number ++ codes " in docs/REFUSALS.md\n"))))))))
-
--- what is told of a refusal with a way, N being its number
-abbrev pub refusal_text : ScriptLines → CommandPlace → TrackedGraph → List Arrow → ResolveErrorKind
-    → List ℕ
-refusal_text script place tracked way kind =
-    told_text (error_number kind) (kind_text kind) (places_text script place tracked kind)
-    (way_text script tracked way)
-
--- what is told of a refusal of what was asked
+-- what is told of a refusal of what was asked, N being its number: `refused N TEXT`, the lines at which it is, its way, and the
+-- document that says more of N
 abbrev pub TellsRefusal : ScriptLines → CommandPlace → TrackedGraph → Asked → ResolveErrorKind
     → List ℕ → Type 0
 TellsRefusal script place tracked asked kind text =
     (way : List Arrow) × IsTold tracked.resolve asked kind way
-    × (text ≡ refusal_text script place tracked way kind)
+    × (text ≡ codes "refused "
+    ++ (decimal (error_number kind)
+    ++ (codes " "
+    ++ (kind_text kind
+    ++ (codes "\n"
+    ++ (places_text script place tracked kind
+    ++ (way_text script tracked way
+    ++ (codes "      = "
+    ++ (decimal (error_number kind) ++ codes " in docs/REFUSALS.md\n")))))))))
 
 -- what is told of a command that names what isn't there: this, and its line
 abbrev pub missing_text : ScriptLines → CommandPlace → List ℕ → List ℕ

@@ -1,7 +1,8 @@
 //! The line at which what isn't understood stands: of a package that hasn't its shape not the `push`, but the line that
 //! breaks it.
 ghost use Rattle.std.specs.Prelude.{◌≡◌, IfOk, OnOk, take};
-ghost use Rattle.wit_script_explain.specs.Culprit.{culprit, fault_index, includes, is_at_fault, is_push, names_badly, noted, searched, no_search, with_line, with_part, world_after};
+ghost use Rattle.wit_script_explain.specs.Culprit.{fault_index, includes, is_at_fault, is_push, noted, searched, no_search, world_after};
+ghost use Rattle.wit_script_explain.specs.steps.Parts.{names_badly, with_part, with_line, culprit};
 
 use crate::lines::{LineSort, ScriptLines, sort_of};
 use std::alloc::{AllocError, Global};

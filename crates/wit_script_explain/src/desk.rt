@@ -1,6 +1,7 @@
 //! The graphs of a script, each with the lines of the script that its files have.
 ghost use Rattle.std.specs.Prelude.{◌≡◌, ◌-◌, ◌++◌, OnOk, drop, length, take};
-ghost use Rattle.wit_script_explain.specs.Desk.{coming_packages, with_files};
+ghost use Rattle.wit_script_explain.specs.Desk.{with_file_starts};
+ghost use Rattle.wit_script_explain.specs.steps.Parts.{coming_packages};
 
 use crate::lines::{CommandPlace, ScriptLines};
 use std::alloc::{AllocError, Global};
@@ -41,7 +42,7 @@ impl TrackedGraph {
     /// Notes the files that the graph's sources have got, which are the first of those that were to come, and the packages
     /// that it has got with them.
     pub fn track(&mut self, coming: &[usize], brought: &[usize]) -> Result<(), AllocError>
-        ensures { OnOk result (self.new ≡ with_files self.old coming.now brought.now) }
+        ensures { OnOk result (self.new ≡ with_file_starts self.old coming.now brought.now) }
     {
         let files = self.resolve.source_map().len();
         let more = files.saturating_sub(self.file_starts.len());

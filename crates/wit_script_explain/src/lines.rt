@@ -1,7 +1,7 @@
 //! The lines of a script, and which of them are commands and which go into the files of packages.
 ghost use Rattle.std.specs.Prelude.{◌≡◌, ◌+◌, ◌<◌, ◌^◌, OnOk, IfOk, IfSome, map, option_map, slice_get};
 ghost use Rattle.wit_script_lines.specs.Line.{lines_of};
-ghost use Rattle.wit_script_explain.specs.Lines.{script_lines_of, sort_of, sort_of_statement, with_line};
+ghost use Rattle.wit_script_explain.specs.Lines.{script_lines_of, sort_of, sort_of_statement, with_next_line};
 
 use std::alloc::{AllocError, Global};
 use wit_data::{Items, Text};
@@ -67,7 +67,8 @@ fn numbered(alloc: Global, lines: &[&str]) -> Result<ScriptLines, AllocError>
 }
 
 impl ScriptLines {
-    ghost use Rattle.wit_script_explain.specs.Lines.{no_lines, with_command, with_sort};
+    ghost use Rattle.wit_script_explain.specs.Lines.{with_command_line, with_sort};
+    ghost use Rattle.wit_script_explain.specs.steps.Parts.{no_lines};
 
     /// The line of an index, where it is there; then it has a number, counted from 1.
     pub fn line_at(&self, index: usize) -> Option<&str>
@@ -96,7 +97,7 @@ impl ScriptLines {
 
     /// Adds a line.
     fn add(&mut self, alloc: Global, line: &str) -> Result<(), AllocError>
-        ensures { OnOk result (self.new ≡ with_line self.old line.now) }
+        ensures { OnOk result (self.new ≡ with_next_line self.old line.now) }
     {
         let sort = sort_of(alloc, line)?;
         self.add_sort(sort)?;
@@ -122,7 +123,7 @@ impl ScriptLines {
 
     /// Notes a command, which comes next.
     fn add_command(&mut self, is_push: bool) -> Result<(), AllocError>
-        ensures { OnOk result (self.new ≡ with_command self.old is_push) }
+        ensures { OnOk result (self.new ≡ with_command_line self.old is_push) }
     {
         self.commands.push(CommandPlace {
             line: self.lines.len(),

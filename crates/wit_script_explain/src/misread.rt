@@ -1,6 +1,6 @@
 //! Why a script isn't understood, and at which line.
 ghost use Rattle.std.specs.Prelude.{◌≡◌, IfOk, List, ℕ, string_bytes};
-ghost use Rattle.wit_script_explain.specs.Misread.{misread_text};
+ghost use Rattle.wit_script_explain.specs.steps.Parts.{misread_text};
 
 use crate::lines::ScriptLines;
 use crate::reason::reason;

@@ -2,16 +2,16 @@
 ghost use Rattle.std.specs.Prelude.{◌≡◌, ◌≢◌, [], ◌∷◌, IfErr, IfOk, Err, None, Ok, Some, false, is_some, string_bytes};
 ghost use Rattle.wit_resolve_graph.specs.Step.{IsCommandShaped, command_of};
 ghost use Rattle.wit_script.specs.Answer.{InTurn, IsSelection};
-ghost use Rattle.wit_script.specs.Ready.{CanAllBeAsked};
-ghost use Rattle.wit_script.specs.steps.Ready.{CanBeAsked};
+ghost use Rattle.wit_script.specs.steps.Ready.{CanBeAsked, CanAllBeAsked};
 ghost use Rattle.wit_script_lines.specs.declared.request.Request.TheVariants as request;
 ghost use Rattle.wit_ways.specs.declared.asked.Asked.TheVariants.{Other};
 ghost use Rattle.wit_script_explain.specs.Desk.{new_desk};
 ghost use Rattle.wit_script_explain.specs.Explained.{Explains, ExplainsCommand, ExplainsPlaced, TellsCommand, with_places};
 ghost use Rattle.wit_script_explain.specs.steps.Explained.{ExplainsReply, place_of, rest_of};
 ghost use Rattle.wit_script_explain.specs.Misread.{IsMisreadText};
-ghost use Rattle.wit_script_explain.specs.Refusals.{TellsRefusal, TellsReply, missing_text, other_text, places_text, span_text, spans_text, unless_refused};
+ghost use Rattle.wit_script_explain.specs.Refusals.{TellsRefusal, TellsReply, missing_text, other_text, places_text, spans_text, unless_refused};
 ghost use Rattle.wit_script_explain.specs.declared.desk.Desk.{Desk};
+ghost use Rattle.wit_script_explain.specs.Shown.{span_text};
 
 use crate::culprit::fault_index;
 use crate::desk::{Desk, TrackedGraph, coming_packages};

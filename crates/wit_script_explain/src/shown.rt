@@ -1,6 +1,7 @@
 //! A line of a script as it is shown: where it stands, its text, and a mark under what it says.
 ghost use Rattle.std.specs.Prelude.{◌≡◌, IfOk, string_bytes};
-ghost use Rattle.wit_script_explain.specs.Shown.{command_text, noted_text, place_text, return_note, snippet_text};
+ghost use Rattle.wit_script_explain.specs.Shown.{command_text, noted_text, file_line_text, snippet_text};
+ghost use Rattle.wit_script_explain.specs.steps.Parts.{return_note};
 
 use crate::lines::ScriptLines;
 use std::alloc::{AllocError, Global};
@@ -18,7 +19,7 @@ pub fn place_text(
     first: usize,
 ) -> Result<String, AllocError>
     ensures { IfOk result
-        (λ text. string_bytes text ≡ place_text script.now (index, path.now, first)) }
+        (λ text. string_bytes text ≡ file_line_text script.now (index, path.now, first)) }
 {
     let Some(line) = script.line_at(index) else {
         return Ok(String::new(alloc));

@@ -1,7 +1,7 @@
 //! Ways of refusals with their lines.
 ghost use Rattle.std.specs.Prelude.{◌≡◌, IfOk, string_bytes};
 ghost use Rattle.std.specs.List.{flat_map};
-ghost use Rattle.wit_script_explain.specs.Ways.{line_text, way_text};
+ghost use Rattle.wit_script_explain.specs.Ways.{way_text, way_line};
 
 use crate::desk::TrackedGraph;
 use crate::lines::ScriptLines;
@@ -35,7 +35,7 @@ fn lines_text(
     way: &[Arrow],
 ) -> Result<String, AllocError>
     ensures { IfOk result
-        (λ text. string_bytes text ≡ flat_map (line_text script.now tracked.now) way.now) }
+        (λ text. string_bytes text ≡ flat_map (way_line script.now tracked.now) way.now) }
 {
     let mut text = String::new(alloc);
     for arrow in way {
@@ -52,7 +52,7 @@ fn line_text(
     tracked: &TrackedGraph,
     arrow: &Arrow,
 ) -> Result<String, AllocError>
-    ensures { IfOk result (λ text. string_bytes text ≡ line_text script.now tracked.now arrow.now) }
+    ensures { IfOk result (λ text. string_bytes text ≡ way_line script.now tracked.now arrow.now) }
 {
     match span_place(script, tracked, arrow.span) {
         Some((index, path, first)) => place_text(alloc, script, index, path, first),

@@ -1,7 +1,8 @@
 -- What commands with several arguments are, by how many arguments there are.
 use Rattle.std.proofs.Common.{◌≡◌, ◌∙◌, ◌<◌, ◌≤◌, ℕ, List, [], ◌∷◌, None, length, ◌-◌, map, drop, take, slice_index_or, Bor, refl, sym, ap, arith}
 use Rattle.std.proofs.Math.Seq.{take-length}
-use Rattle.wit_script_lines.specs.Request.{exportize_of, exportize_to, importize_of, world_of}
+use Rattle.wit_script_lines.specs.Request.{exportize_of, importize_of, world_of}
+use Rattle.wit_script_lines.specs.steps.Parts.{exportize_to}
 
 abbrev Tokens : Type 0
 Tokens = List (Bor (List ℕ))

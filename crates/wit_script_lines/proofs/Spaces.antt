@@ -1,7 +1,8 @@
 -- Where the first and the last byte of a line that isn't a space stand.
 use Rattle.std.proofs.Common.{◌≡◌, ◌==◌, ℕ, ◌-◌, ◌<◌, ◌≤◌, List, length, get_or, true, false, sym, arith}
 use Rattle.std.proofs.lemmas.List.Sums.{prefix_len_is, suffix_len_is}
-use Rattle.wit_script_lines.specs.Line.{content_start_of, trimmed_len_of}
+use Rattle.wit_script_lines.specs.Line.{content_start_of}
+use Rattle.wit_script_lines.specs.steps.Parts.{trimmed_len_of}
 
 -- spaces up to n, and no space there
 pub leading_spaces_is : (bytes line : List ℕ) (n : ℕ) → bytes ≡ line → n ≤ length bytes → ((k : ℕ) → k < n → (get_or bytes k 0 == 32) ≡ true)

@@ -20,21 +20,16 @@ abbrev pub is_blank_or_comment_of : List (List ℕ) → Bool
 is_blank_or_comment_of [] = true
 is_blank_or_comment_of (token ∷ tokens) = is_comment token
 
-abbrev pub is_blank_or_comment : List ℕ → Bool
-is_blank_or_comment line = is_blank_or_comment_of (tokens_of line)
-
 -- how many lines there are up to the last that says something, that one included
 abbrev pub last_statement_line : List (List ℕ) → ℕ
-last_statement_line lines = length lines - suffix_len is_blank_or_comment lines
+last_statement_line lines =
+    length lines - suffix_len (λ line. is_blank_or_comment_of (tokens_of line)) lines
 
 -- where what a line says begins: after the spaces that lead it
 abbrev pub content_start_of : List ℕ → ℕ
 content_start_of line = prefix_len (λ b. b == 32) line
 
--- how many bytes a line has without the spaces at its end
-abbrev pub trimmed_len_of : List ℕ → ℕ
-trimmed_len_of line = length line - suffix_len (λ b. b == 32) line
-
 -- where what a line says ends: after its last byte that isn't a space, or at its end where it has spaces alone
 abbrev pub content_end_of : List ℕ → ℕ
-content_end_of line = max (trimmed_len_of line) (content_start_of line)
+content_end_of line =
+    max (length line - suffix_len (λ b. b == 32) line) (content_start_of line)

@@ -7,7 +7,7 @@ use Rattle.wit_data.specs.declared.world.IncludeName.{IncludeName}
 use Rattle.wit_names.specs.declared.use_path.ParsedUsePath.{ParsedUsePath}
 use Rattle.wit_data.specs.declared.stability.Stability.{Stability}
 use Rattle.wit_data.specs.declared.stability.Stability.TheVariants.{Unknown, Stable, Unstable}
-use Rattle.wit_script_lines.specs.Token.{after_prefix, part_of, path_of, split_at, version_of}
+use Rattle.wit_script_lines.specs.Token.{after_prefix, part_of, path_of, split_at, version_of, only_of}
 use Rattle.wit_script_lines.specs.TypeText.{type_text_of}
 use Rattle.wit_script_lines.specs.declared.package_line.PackageLine.{PackageLine}
 use Rattle.wit_script_lines.specs.declared.package_line.PackageLine.TheVariants as line
@@ -52,16 +52,6 @@ signature_of token =
     option_and_then (λ (parts : List ℕ × List ℕ). signature_with named.0 parts.0 parts.1)
     (split_at 41 named.1)) (split_at 40 token)
 
--- one name
-abbrev pub named_line_of : List (List ℕ) → Option (List ℕ)
-named_line_of (name ∷ []) = part_of name
-named_line_of _ = None
-
--- one function
-abbrev pub signed_line_of : List (List ℕ) → Option Signature
-signed_line_of (token ∷ []) = signature_of token
-signed_line_of _ = None
-
 -- `NAME TYPE`
 abbrev pub type_line_of : List (List ℕ) → Option PackageLine
 type_line_of (name ∷ ty ∷ []) = option_map (λ own. line.Type_ own (type_text_of ty)) (part_of name)
@@ -87,17 +77,13 @@ use_line_of (path ∷ name ∷ []) = use_line_with path name name
 use_line_of (path ∷ name ∷ new ∷ []) = use_line_with path name new
 use_line_of _ = None
 
--- a label, where there is one, and a path
-abbrev pub entry_by : List ℕ → Option (List ℕ × List ℕ) → Option (Option (List ℕ) × ParsedUsePath)
-entry_by token None = option_map (λ path. (None, path)) (path_of token)
-entry_by token (Some parts) =
-    option_and_then (λ label. option_map (λ path. (Some label, path)) (path_of parts.1))
-    (part_of parts.0)
-
 -- `PATH` or `LABEL=PATH`; the label ends at the first `=`
-abbrev pub entry_tokens : List (List ℕ) → Option (Option (List ℕ) × ParsedUsePath)
-entry_tokens (token ∷ []) = entry_by token (split_at 61 token)
-entry_tokens _ = None
+abbrev pub entry_of : List ℕ → Option (Option (List ℕ) × ParsedUsePath)
+entry_of token =
+    option_map_or (λ (parts : List ℕ × List ℕ).
+    option_and_then (λ label. option_map (λ path. (Some label, path)) (path_of parts.1))
+    (part_of parts.0))
+    (split_at 61 token) (option_map (λ path. (None, path)) (path_of token))
 
 -- `OLD=NEW`; the old name ends at the first `=`
 abbrev pub rename_of : List ℕ → Option IncludeName
@@ -116,21 +102,23 @@ include_line_of (path ∷ names) =
 -- a line of a package by its first token and its arguments without the gate
 abbrev pub package_line_by : List ℕ → List (List ℕ) → Option PackageLine
 package_line_by word arguments =
-    if bytes_eq word (codes "interface") then option_map line.Interface (named_line_of arguments)
-    else if bytes_eq word (codes "world") then option_map line.World (named_line_of arguments)
+    if bytes_eq word (codes "interface") then option_map line.Interface (only_of part_of arguments)
+    else if bytes_eq word (codes "world") then option_map line.World (only_of part_of arguments)
     else if bytes_eq word (codes "type") then type_line_of arguments
     else if bytes_eq word (codes "record") then record_line_of arguments
-    else if bytes_eq word (codes "resource") then option_map line.Resource (named_line_of arguments)
+    else if bytes_eq word (codes "resource") then option_map line.Resource
+    (only_of part_of arguments)
     else if bytes_eq word (codes "use") then use_line_of arguments
-    else if bytes_eq word (codes "func") then option_map line.Function (signed_line_of arguments)
+    else if bytes_eq word (codes "func") then option_map line.Function
+    (only_of signature_of arguments)
     else if bytes_eq word (codes "import") then option_map (λ entry. line.Import entry.0 entry.1)
-    (entry_tokens arguments)
+    (only_of entry_of arguments)
     else if bytes_eq word (codes "export") then option_map (λ entry. line.Export entry.0 entry.1)
-    (entry_tokens arguments)
+    (only_of entry_of arguments)
     else if bytes_eq word (codes "import-func") then option_map line.ImportFunction
-    (signed_line_of arguments)
+    (only_of signature_of arguments)
     else if bytes_eq word (codes "export-func") then option_map line.ExportFunction
-    (signed_line_of arguments)
+    (only_of signature_of arguments)
     else if bytes_eq word (codes "include") then include_line_of arguments
     else None
 

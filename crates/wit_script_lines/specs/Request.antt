@@ -2,7 +2,7 @@
 use Rattle.std.specs.Prelude.{ℕ, ◌||◌, Bool, true, List, [], ◌∷◌, Option, Some, None, option_and_then, codes, if◌then◌else◌, option_map, bytes_eq}
 use Rattle.wit_names.specs.declared.package_name.PackageName.{PackageName}
 use Rattle.wit_names.specs.declared.track.TrackRule.{TrackRule}
-use Rattle.wit_script_lines.specs.Token.{package_name_of, part_of}
+use Rattle.wit_script_lines.specs.Token.{package_name_of, part_of, alone_of, only_of}
 use Rattle.wit_commands.specs.declared.change.Change.TheVariants as change
 use Rattle.wit_script_lines.specs.declared.request.Request.{Request}
 use Rattle.wit_script_lines.specs.declared.request.Request.TheVariants as request
@@ -17,28 +17,12 @@ is_request word =
     || (bytes_eq word (codes "exportize") || (bytes_eq word (codes "semver")
     || (bytes_eq word (codes "print") || bytes_eq word (codes "select")))))))))
 
--- a command without arguments
-abbrev pub alone_of : Request → List (List ℕ) → Option Request
-alone_of asked [] = Some asked
-alone_of asked (argument ∷ arguments) = None
-
--- `NAME`
-abbrev pub feature_of : List (List ℕ) → Option Request
-feature_of (name ∷ []) = option_map (λ n. request.Change (change.AddFeature n)) (part_of name)
-feature_of _ = None
-
 -- `published` or `with-prereleases`
 abbrev pub track_rule_of : List ℕ → Option TrackRule
 track_rule_of token =
     if bytes_eq token (codes "published") then Some tracks.Published
     else if bytes_eq token (codes "with-prereleases") then Some tracks.WithPrereleases
     else None
-
--- the rule of tracks of this name
-abbrev pub tracks_of : List (List ℕ) → Option Request
-tracks_of (rule ∷ []) =
-    option_map (λ r. request.Change (change.SetTrackRule r)) (track_rule_of rule)
-tracks_of _ = None
 
 -- a world of a package
 abbrev pub world_in : List ℕ → List ℕ → Option (PackageName × List ℕ)
@@ -65,25 +49,18 @@ importize_of (name ∷ world ∷ out ∷ []) =
     option_and_then (λ new. importize_to name world (Some new)) (part_of out)
 importize_of _ = None
 
--- the new name of `exportize`, where `-` stands for none
-abbrev pub new_name_of : List ℕ → Option (List ℕ)
-new_name_of token = if bytes_eq token (codes "-") then None else Some token
-
 -- the keys of `exportize`; without any, all imports become exports
 abbrev pub keys_of : List (List ℕ) → Option (List (List ℕ))
 keys_of [] = None
 keys_of (key ∷ keys) = Some (key ∷ keys)
 
--- the transformation of a world by these keys, which then has this name
-abbrev pub exportize_to : List ℕ → List ℕ → List ℕ → List (List ℕ) → Option Request
-exportize_to name world out keys =
-    option_map (λ (named : PackageName × List ℕ).
-    request.Change (change.Exportize named.0 named.1 (new_name_of out) (keys_of keys)))
-    (world_in name world)
-
--- `PKG WORLD NAME KEY ..`
+-- `PKG WORLD NAME KEY ..`, where `-` stands for no new name
 abbrev pub exportize_of : List (List ℕ) → Option Request
-exportize_of (name ∷ world ∷ out ∷ keys) = exportize_to name world out keys
+exportize_of (name ∷ world ∷ out ∷ keys) =
+    option_map (λ (named : PackageName × List ℕ).
+    let new = if bytes_eq out (codes "-") then None else Some out in
+    request.Change (change.Exportize named.0 named.1 new (keys_of keys)))
+    (world_in name world)
 exportize_of _ = None
 
 -- the choice of a world for a package
@@ -100,10 +77,12 @@ select_of _ = None
 -- such a command by its first token and its arguments
 abbrev pub request_by : List ℕ → List (List ℕ) → Option Request
 request_by word arguments =
-    if bytes_eq word (codes "feature") then feature_of arguments
+    if bytes_eq word (codes "feature") then
+    option_map (λ n. request.Change (change.AddFeature n)) (only_of part_of arguments)
     else if bytes_eq word (codes "all-features") then
     alone_of (request.Change (change.SetAllFeatures true)) arguments
-    else if bytes_eq word (codes "tracks") then tracks_of arguments
+    else if bytes_eq word (codes "tracks") then
+    option_map (λ r. request.Change (change.SetTrackRule r)) (only_of track_rule_of arguments)
     else if bytes_eq word (codes "other") then alone_of request.Other arguments
     else if bytes_eq word (codes "merge") then alone_of request.Merge arguments
     else if bytes_eq word (codes "importize") then importize_of arguments

@@ -3,19 +3,9 @@ use Rattle.std.specs.Prelude.{ℕ, List, [], ◌∷◌, Option, Some, None, opti
 use Rattle.wit_script_lines.specs.PackageLine.{gate_of_line, package_line_by, ungated_of}
 use Rattle.wit_script_lines.specs.Line.{is_comment, tokens_of}
 use Rattle.wit_script_lines.specs.Request.{is_request, request_by}
-use Rattle.wit_script_lines.specs.Token.{package_name_of}
+use Rattle.wit_script_lines.specs.Token.{package_name_of, alone_of, only_of}
 use Rattle.wit_script_lines.specs.declared.statement.Statement.{Statement}
 use Rattle.wit_script_lines.specs.declared.statement.Statement.TheVariants as says
-
--- `package PKG`
-abbrev pub package_statement_of : List (List ℕ) → Option Statement
-package_statement_of (name ∷ []) = option_map says.Package (package_name_of name)
-package_statement_of _ = None
-
--- `push`
-abbrev pub push_statement_of : List (List ℕ) → Option Statement
-push_statement_of [] = Some says.Push
-push_statement_of (argument ∷ arguments) = None
 
 -- a line of a package, with its gate
 abbrev pub gated_line_by : List ℕ → List (List ℕ) → Option Statement
@@ -28,8 +18,9 @@ gated_line_by word arguments =
 abbrev pub statement_by : List ℕ → List (List ℕ) → Option Statement
 statement_by word arguments =
     if is_request word then option_map says.Request (request_by word arguments)
-    else if bytes_eq word (codes "package") then package_statement_of arguments
-    else if bytes_eq word (codes "push") then push_statement_of arguments
+    else if bytes_eq word (codes "package") then
+    option_map says.Package (only_of package_name_of arguments)
+    else if bytes_eq word (codes "push") then alone_of says.Push arguments
     else gated_line_by word arguments
 
 -- what the tokens of a line say: None where they aren't understood, and inside it None where they say nothing

@@ -1,5 +1,5 @@
 -- What single tokens of a script say.
-use Rattle.std.specs.Prelude.{ℕ, ◌-◌, List, length, take, drop, ◌==◌, nat_eq, nat_lt, Option, Some, None, Result, Ok, Err, option_and_then, codes, if◌then◌else◌, bytes_eq, option_map}
+use Rattle.std.specs.Prelude.{ℕ, ◌-◌, List, length, take, drop, ◌==◌, nat_eq, nat_lt, Option, Some, None, Result, Ok, Err, option_and_then, codes, if◌then◌else◌, bytes_eq, option_map, [], ◌∷◌}
 use Rattle.std.specs.List.{position_or_len, before_first, after_first, list_any, starts_with, ends_with}
 use Rattle.semver.specs.Parse.{version_parts}
 use Rattle.semver.specs.declared.error.Error.{Error}
@@ -91,3 +91,13 @@ inside opening text =
     option_and_then (λ rest.
     if ends_with nat_eq rest (codes ">") then Some (take (length rest - 1) rest) else None)
     (after_prefix opening text)
+
+-- a line without arguments
+abbrev pub alone_of : {A : Type 0} → A → List (List ℕ) → Option A
+alone_of said [] = Some said
+alone_of said (argument ∷ arguments) = None
+
+-- a line with one argument, which is read so
+abbrev pub only_of : {A : Type 0} → (List ℕ → Option A) → List (List ℕ) → Option A
+only_of read (argument ∷ []) = read argument
+only_of read _ = None

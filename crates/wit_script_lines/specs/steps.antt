@@ -1,3 +1,4 @@
 pub mod LineWords
+pub mod Parts
 pub mod ReadResult
 pub mod Request

@@ -1,7 +1,8 @@
 //! The lines of a script, and the tokens of a line.
 ghost use Rattle.std.specs.Prelude.{◌≡◌, ◌≤◌, ◌<◌, ◌==◌, map, length, IfOk};
 ghost use Rattle.std.specs.List.{slice_split};
-ghost use Rattle.wit_script_lines.specs.Line.{tokens_of, lines_of, content_start_of, content_end_of, trimmed_len_of, is_comment};
+ghost use Rattle.wit_script_lines.specs.Line.{tokens_of, lines_of, content_start_of, content_end_of, is_comment};
+ghost use Rattle.wit_script_lines.specs.steps.Parts.{trimmed_len_of};
 
 use std::alloc::{AllocError, Global};
 

@@ -1,9 +1,10 @@
 //! What a line of a package says by its tokens alone.
 ghost use Rattle.std.specs.Prelude.{◌≡◌, map};
 ghost use Rattle.wit_script_lines.specs.steps.ReadResult.{IsRead};
-ghost use Rattle.wit_script_lines.specs.PackageLine.{each_of, entry_by, entry_tokens, include_line_of, named_line_of, package_line_by, record_line_of, rename_of, signed_line_of, type_line_of, use_line_of, use_line_with};
+ghost use Rattle.wit_script_lines.specs.PackageLine.{each_of, include_line_of, package_line_by, record_line_of, rename_of, type_line_of, use_line_of, use_line_with};
 ghost use Rattle.wit_script_lines.specs.Token.{split_at};
 ghost use Rattle.wit_script_lines.specs.steps.LineWords.{line_word, word_text};
+ghost use Rattle.wit_script_lines.specs.steps.Parts.{named_line_of, signed_line_of, entry_by, entry_tokens};
 
 use crate::fault::LineFault;
 use crate::signature::{Signature, TypedName, read_signature, read_typed_names};

@@ -1,7 +1,9 @@
 //! What a command of a script that brings no package says by its tokens alone.
 ghost use Rattle.std.specs.Prelude.{◌≡◌, map, IfOk};
 ghost use Rattle.wit_script_lines.specs.steps.ReadResult.{IsRead};
-ghost use Rattle.wit_script_lines.specs.Request.{alone_of, exportize_of, exportize_to, feature_of, importize_of, importize_to, is_request, keys_of, new_name_of, request_by, select_of, select_with, track_rule_of, tracks_of, world_in, world_of};
+ghost use Rattle.wit_script_lines.specs.Request.{exportize_of, importize_of, importize_to, is_request, keys_of, request_by, select_of, select_with, track_rule_of, world_in, world_of};
+ghost use Rattle.wit_script_lines.specs.Token.{alone_of};
+ghost use Rattle.wit_script_lines.specs.steps.Parts.{feature_of, tracks_of, new_name_of, exportize_to};
 
 use crate::fault::LineFault;
 use crate::token::{read_package_name, read_part};

@@ -2,7 +2,8 @@
 ghost use Rattle.std.specs.Prelude.{map};
 ghost use Rattle.wit_script_lines.specs.steps.LineWords.{word_text};
 ghost use Rattle.wit_script_lines.specs.steps.ReadResult.{IsRead};
-ghost use Rattle.wit_script_lines.specs.Statement.{gated_line_by, package_statement_of, push_statement_of, statement_by, statement_of};
+ghost use Rattle.wit_script_lines.specs.Statement.{gated_line_by, statement_by, statement_of};
+ghost use Rattle.wit_script_lines.specs.steps.Parts.{package_statement_of, push_statement_of};
 
 use crate::fault::LineFault;
 use crate::gate::{read_gate, ungated};

@@ -35,7 +35,7 @@ use Rattle.wit_data.specs.declared.world.WorldKey.{WorldKey}
 use Rattle.wit_data.specs.declared.types.TypeDefKind.TheVariants as kind
 use Rattle.wit_data.specs.declared.types.TypeOwner.TheVariants as owner
 use Rattle.wit_data.specs.declared.unresolved.AstItem.TheVariants as item
-use Rattle.wit_script_package.specs.Adding.{empty_interface, empty_world, type_with, with_interface_type, with_type, with_type_name}
+use Rattle.wit_script_package.specs.Adding.{empty_interface, empty_world, type_with, with_interface_type, with_type}
 use Rattle.wit_script_package.proofs.Parts.{with_type_name_in}
 use Rattle.wit_script_package.specs.Draft.{new_draft, new_draft_at, span_after}
 use Rattle.wit_script_package.specs.Mention.{known_mentions, mentioned_at}
@@ -57,6 +57,7 @@ use Rattle.wit_script_package.proofs.Sound.{IsOpenOwn, IsSound, interface_count,
 use Rattle.wit_script_package.proofs.Things.{IsGoodInterface, IsGoodType, IsGoodWorld, dep-is}
 use Rattle.wit_script_lines.specs.facts.OptionFacts.{map-of, step-of}
 use Rattle.wit_data.specs.steps.Parts.{parts, IsNameOnlyInterface, IsNameOnlyWorld}
+use Rattle.wit_script_package.specs.steps.Parts.{with_type_name}
 
 -- ---- what holds while mentions are added
 

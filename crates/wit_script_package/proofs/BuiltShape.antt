@@ -17,13 +17,14 @@ use Rattle.wit_data.specs.declared.unresolved.UnresolvedPackageGroup.{Unresolved
 use Rattle.wit_data.specs.declared.types.TypeOwner.TheVariants as owner
 use Rattle.wit_script_package.specs.steps.Built.{IsBuilt}
 use Rattle.wit_script_package.specs.steps.Built.IsBuilt.{first_line, next_line}
-use Rattle.wit_script_package.specs.Draft.{as_group, group_with, one_file}
+use Rattle.wit_script_package.specs.Draft.{as_group}
 use Rattle.wit_script_package.specs.steps.Pushable.{IsPushable}
 use Rattle.wit_script_package.specs.declared.draft.Draft.{Draft}
 use Rattle.wit_script_package.proofs.Begun.{begin-sound}
 use Rattle.wit_script_package.proofs.LineByLine.{line-sound}
 use Rattle.wit_script_package.proofs.Sound.{IsSound}
 use Rattle.wit_script_lines.specs.facts.OptionFacts.{map-of, same-some}
+use Rattle.wit_script_package.specs.steps.Parts.{one_file, group_with}
 
 -- what lines built is sound
 pub built-sound : (p : Draft) → IsBuilt p → IsSound p

@@ -8,10 +8,10 @@ use Rattle.wit_script_lines.specs.declared.fault.LineFault.{LineFault}
 use Rattle.wit_script_lines.specs.declared.signature.Signature.{Signature}
 use Rattle.wit_script_package.specs.Adding.{with_export, with_import}
 use Rattle.wit_script_package.specs.steps.DraftResult.{DraftResult}
-use Rattle.wit_script_package.specs.Lines.{with_exported_function, with_imported_function}
 use Rattle.wit_script_package.specs.Making.{function_made}
 use Rattle.wit_script_package.specs.declared.draft.Draft.{Draft}
 use Rattle.wit_script_package.specs.declared.draft.LineContext.{LineContext}
+use Rattle.wit_script_package.specs.steps.Parts.{with_imported_function, with_exported_function}
 
 module _ {A : Type 0} (p q new : Draft) (said : Signature) (here : LineContext) (f : Function) (name : List ℕ) (answer : Result A LineFault) where
   pub imported : function_made p said here ≡ Some (f, q) → name ≡ f.name → DraftResult (with_import q (key.Name name) (item.Function f)) answer new → DraftResult (with_imported_function p said here) answer new

@@ -6,8 +6,9 @@ use Rattle.wit_data.specs.declared.world.WorldItem.{WorldItem}
 use Rattle.wit_data.specs.declared.world.WorldKey.TheVariants as key
 use Rattle.std.specs.Option.{option_and_then}
 use Rattle.wit_data.specs.Entries.{item_type}
-use Rattle.wit_script_package.specs.Naming.{same_key, world_type_at}
+use Rattle.wit_script_package.specs.Naming.{same_key}
 use Rattle.wit_script_package.specs.declared.draft.Draft.{Draft}
+use Rattle.wit_script_package.specs.steps.Parts.{world_type_at}
 
 -- a type of a world, found under its name
 pub world-type-is : (p : Draft) (name : List ℕ) (at : ℕ) (world : World) (found : WorldItem) → slice_get p.worlds at ≡ Some world

@@ -39,10 +39,10 @@ use Rattle.wit_script_lines.specs.declared.signature.Signature.{Signature}
 use Rattle.wit_script_lines.specs.declared.signature.TypedName.{TypedName}
 use Rattle.wit_script_lines.specs.declared.type_text.TypeText.{TypeText}
 use Rattle.wit_script_package.specs.Adding.{with_export, with_function, with_import, with_include, with_named}
-use Rattle.wit_script_package.specs.Draft.{span_after, with_text}
-use Rattle.wit_script_package.specs.Lines.{include_item, interface_entry, key_of, with_export_line, with_exported_function, with_function_line, with_gated_line, with_import_line, with_imported_function, with_include_line, with_line, with_record, with_type_line, with_use}
+use Rattle.wit_script_package.specs.Draft.{span_after}
+use Rattle.wit_script_package.specs.Lines.{interface_entry, key_of, with_gated_line, with_line}
 use Rattle.wit_script_package.specs.Making.{each_made, field_made, function_made, kind_made}
-use Rattle.wit_script_package.specs.Naming.{OptionalSpan, foreign_named, interface_named, interface_of, open_interface, open_world, type_at, used_type, world_named}
+use Rattle.wit_script_package.specs.Naming.{OptionalSpan, foreign_named, interface_named, interface_of, open_interface, open_world, type_at, world_named}
 use Rattle.wit_script_package.specs.declared.draft.Draft.{Draft}
 use Rattle.wit_script_package.specs.declared.draft.LineContext.{LineContext}
 use Rattle.wit_script_package.proofs.Added.{IsNamedKind}
@@ -51,6 +51,7 @@ use Rattle.wit_script_package.proofs.Places.{Each-nil, SomeAt-moved, get_at, if-
 use Rattle.wit_script_package.proofs.Sound.{IsSound, open_interface-is, open_owner, owner_by, sound-export, sound-function, sound-import, sound-include, sound-interface, sound-named, sound-world, things}
 use Rattle.wit_script_lines.specs.facts.OptionFacts.{map-of, same-some, step-of}
 use Rattle.wit_data.specs.steps.Parts.{parts, IsNameOnlyInterface}
+use Rattle.wit_script_package.specs.steps.Parts.{with_text, with_type_line, with_record, with_use, with_function_line, with_import_line, with_export_line, with_imported_function, with_exported_function, include_item, with_include_line, used_type}
 
 -- ---- kinds of types with a name
 

@@ -41,9 +41,9 @@ use Rattle.wit_script_lines.specs.declared.type_text.Wrap.TheVariants as wrap
 use Rattle.wit_script_lines.specs.declared.type_text.Written.{Written}
 use Rattle.wit_script_lines.specs.declared.type_text.Written.TheVariants as written
 use Rattle.wit_script_package.specs.Adding.{type_with, with_type}
-use Rattle.wit_script_package.specs.Making.{answer_made, around, each_made, field_made, forms_made, function_by, function_made, function_with, handle_argument, kind_made, param_made, type_made, type_of, with_resource, with_root, with_root_at, written_made}
-use Rattle.wit_script_package.specs.Naming.{OptionalSpan, earlier, earlier_in, open_interface, open_world, type_at, type_named, world_type_at}
-use Rattle.wit_script_package.specs.Role.{constructor_resource, freestanding_kind, function_kind_of, is_plain, member_of, method_role, static_role}
+use Rattle.wit_script_package.specs.Making.{answer_made, around, each_made, field_made, forms_made, function_by, function_made, handle_argument, kind_made, param_made, type_made, type_of, with_resource, with_root, written_made}
+use Rattle.wit_script_package.specs.Naming.{OptionalSpan, earlier, earlier_in, open_interface, open_world, type_at}
+use Rattle.wit_script_package.specs.Role.{freestanding_kind, function_kind_of, is_plain, member_of}
 use Rattle.wit_script_package.specs.declared.draft.Draft.{Draft}
 use Rattle.wit_script_package.specs.declared.draft.LineContext.{LineContext}
 use Rattle.wit_script_package.specs.declared.draft.Scope.{Scope}
@@ -54,6 +54,7 @@ use Rattle.wit_script_package.proofs.Places.{Each-append, Each-nil, EachAt-push,
 use Rattle.wit_script_package.proofs.Sound.{IsSound, interface_count, open_interface-is, open_owner, open_world-is, sound-with, things, world_count}
 use Rattle.wit_script_package.proofs.Things.{good-earlier}
 use Rattle.wit_script_lines.specs.facts.OptionFacts.{map-of, same-some, step-of}
+use Rattle.wit_script_package.specs.steps.Parts.{with_root_at, function_with, world_type_at, type_named, constructor_resource, method_role, static_role}
 
 -- ---- earlier types
 

@@ -17,8 +17,8 @@ use Rattle.wit_data.specs.declared.types.TypeDefKind.TheVariants as kind
 use Rattle.wit_data.specs.declared.types.TypeOwner.TheVariants as owner
 use Rattle.wit_data.specs.declared.unresolved.AstItem.TheVariants as item
 use Rattle.wit_script_package.specs.Adding.{empty_interface, empty_world, type_with, with_interface_type, with_type}
-use Rattle.wit_script_package.specs.Draft.{new_draft_at, with_newline}
-use Rattle.wit_script_package.specs.Mention.{first_interfaces, first_role, known_mentions, first_packages, first_types, first_worlds, firsts, foreign_type, foreign_world, interface_id_of, is_world, mentioned_at, same_item, same_name, same_parent, same_type, type_id_of, used_type_name, world_id_of}
+use Rattle.wit_script_package.specs.Draft.{new_draft_at}
+use Rattle.wit_script_package.specs.Mention.{first_interfaces, first_role, known_mentions, first_packages, first_types, first_worlds, firsts, foreign_type, interface_id_of, is_world, mentioned_at, same_item, same_name, same_parent, same_type, type_id_of, used_type_name}
 use Rattle.wit_script_package.proofs.Parts.{agrees_on_role, uses_type, with_type_name_in}
 use Rattle.wit_script_package.specs.steps.Mentioning.{fits, is_world_item, with_counted, with_dep_span, with_foreign, with_foreign_as, with_foreign_gate, with_foreign_type, with_gate, with_item_gate, with_mention, with_mention_of, with_package_gate, with_type_span, with_use_as}
 use Rattle.wit_script_package.specs.Naming.{OptionalSpan, foreign_named}
@@ -31,6 +31,7 @@ use Rattle.wit_script_package.specs.declared.mention.MentionKind.TheVariants as 
 use Rattle.wit_script_package.proofs.Firsts.{each, each-first, each-kept, filter-none, find-filter, find-firsts, find-kept, found-passes, none-first, find-last, find-same, firsts-apart, firsts-new, firsts-old, map-each, none-filter, place-new, place-old, position-same}
 use Rattle.wit_script_package.proofs.Same.{item-parent, item-through, item-turn, own-item, own-text, parent-through, parent-turn, type-through, type-turn}
 use Rattle.wit_script_package.proofs.Tables.{Tells, Transforms, item-at, item-changed, lookup-rows, rows-same, value-changed, value-last}
+use Rattle.wit_script_package.specs.steps.Parts.{with_newline, world_id_of, foreign_world}
 
 -- one more, kept or not
 filter-in : (q : Mention → Bool) (ks : List Mention) (m : Mention) → q m ≡ true → filter q (ks ++ m ∷ []) ≡ filter q ks ++ m ∷ []

@@ -7,7 +7,7 @@ use Rattle.wit_names.specs.declared.use_path.ParsedUsePath.{ParsedUsePath}
 use Rattle.wit_data.specs.declared.stability.Stability.{Stability}
 use Rattle.wit_names.specs.declared.use_path.ParsedUsePath.TheVariants as path
 use Rattle.wit_script_lines.specs.Line.{tokens_of}
-use Rattle.wit_script_lines.specs.PackageLine.{each_of, entry_by, entry_tokens, gate_of_line, is_gate, last_of, include_line_of, named_line_of, package_line_by, record_line_of, rename_of, signed_line_of, type_line_of, typed_name_of, ungated_of, use_line_of, use_line_with}
+use Rattle.wit_script_lines.specs.PackageLine.{each_of, gate_of_line, is_gate, last_of, include_line_of, package_line_by, record_line_of, rename_of, type_line_of, typed_name_of, ungated_of, use_line_of, use_line_with}
 use Rattle.wit_script_lines.specs.Statement.{gated_line_by, statement_of, statement_of_tokens}
 use Rattle.wit_script_lines.specs.Token.{part_of, path_of, split_at}
 use Rattle.wit_script_lines.specs.TypeText.{type_text_of}
@@ -21,6 +21,7 @@ use Rattle.wit_script_package.specs.declared.mention.MentionKind.{MentionKind}
 use Rattle.wit_script_package.specs.declared.mention.MentionKind.TheVariants as taken
 use Rattle.wit_script_package.proofs.Same.{text-is}
 use Rattle.wit_script_lines.specs.facts.OptionFacts.{same-some}
+use Rattle.wit_script_lines.specs.steps.Parts.{named_line_of, signed_line_of, entry_by, entry_tokens}
 
 -- ---- texts without a colon
 

@@ -30,7 +30,7 @@ use Rattle.wit_data.specs.declared.types.TypeOwner.TheVariants as owner
 use Rattle.wit_data.specs.declared.unresolved.AstItem.TheVariants as item
 use Rattle.wit_data.specs.declared.world.WorldItem.TheVariants as entry
 use Rattle.wit_data.specs.declared.world.WorldKey.TheVariants as key
-use Rattle.wit_script_package.specs.Adding.{empty_interface, empty_world, type_with, with_export, with_export_at, with_function, with_function_at, with_import, with_import_at, with_include, with_include_at, with_interface, with_interface_type, with_named_in, with_type, with_type_name, with_world, with_world_type}
+use Rattle.wit_script_package.specs.Adding.{empty_interface, empty_world, type_with, with_export, with_function, with_import, with_import_at, with_include, with_interface, with_interface_type, with_named_in, with_type, with_world, with_world_type}
 use Rattle.wit_script_package.specs.Naming.{OptionalSpan, last_place, open_interface, open_interface_index, open_world, open_world_index, same_key}
 use Rattle.wit_script_package.specs.declared.draft.Draft.{Draft}
 use Rattle.wit_script_package.specs.declared.draft.Foreign.{Foreign}
@@ -43,6 +43,7 @@ use Rattle.wit_script_package.proofs.Places.{Each-contains, EachAt-push, contain
 use Rattle.wit_script_package.proofs.Things.{AreGood, Grows, Things, good-earlier, type-stays}
 use Rattle.wit_script_lines.specs.facts.OptionFacts.{map-of, same-some, step-of}
 use Rattle.wit_data.specs.steps.Parts.{IsNameOnlyInterface, IsNameOnlyWorld}
+use Rattle.wit_script_package.specs.steps.Parts.{with_export_at, with_function_at, with_include_at, with_type_name}
 
 abbrev pub things : Draft → Things
 things p = record { types = p.types; interfaces = p.interfaces; worlds = p.worlds }

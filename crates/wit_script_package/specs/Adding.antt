@@ -69,22 +69,17 @@ with_type p def =
     record p
     { types = p.types ++ def ∷ []; roots = p.roots ++ root_of p (length p.types) def.kind ∷ [] }
 
--- the name of the next type in the interface at a place, where it has no type of that name
-abbrev pub with_type_name : Draft → List ℕ → ℕ → Option Draft
-with_type_name p name at =
-    option_and_then (λ (interface : Interface).
+-- one more type of the interface at a place, where it has no type of that name
+abbrev pub with_interface_type : Draft → List ℕ → TypeDefKind → LineContext → ℕ → Option Draft
+with_interface_type p name made here at =
+    option_map (λ (q : Draft). with_type q (type_with (Some name) made (owner.Interface at) here))
+    (option_and_then (λ (interface : Interface).
     if is_some (lookup (bytes_eq name) interface.types) then None
     else Some (record p {
       interfaces = slice_set p.interfaces at
           (record interface { types = interface.types ++ (name, length p.types) ∷ [] });
     }))
-    (slice_get p.interfaces at)
-
--- one more type of the interface at a place
-abbrev pub with_interface_type : Draft → List ℕ → TypeDefKind → LineContext → ℕ → Option Draft
-with_interface_type p name made here at =
-    option_map (λ (q : Draft). with_type q (type_with (Some name) made (owner.Interface at) here))
-    (with_type_name p name at)
+    (slice_get p.interfaces at))
 
 -- one more import of the world at a place, under a key that it doesn't import yet
 abbrev pub with_import_at : Draft → WorldKey → WorldItem → ℕ → Option Draft
@@ -101,20 +96,18 @@ with_import_at p k entry at =
 abbrev pub with_import : Draft → WorldKey → WorldItem → Option Draft
 with_import p k entry = option_and_then (with_import_at p k entry) (open_world p)
 
--- one more export of the world at a place, under a key that it doesn't export yet
-abbrev pub with_export_at : Draft → WorldKey → WorldItem → ℕ → Option Draft
-with_export_at p k entry at =
+-- one more export of the world into which lines go, under a key that it doesn't export yet
+abbrev pub with_export : Draft → WorldKey → WorldItem → Option Draft
+with_export p k entry =
+    option_and_then (λ at.
     option_and_then (λ (world : World).
     if is_some (lookup (same_key k) world.exports) then None
     else Some (record p {
       worlds = slice_set p.worlds at
           (record world { exports = world.exports ++ (k, entry) ∷ [] });
     }))
-    (slice_get p.worlds at)
-
--- one more export of the world into which lines go
-abbrev pub with_export : Draft → WorldKey → WorldItem → Option Draft
-with_export p k entry = option_and_then (with_export_at p k entry) (open_world p)
+    (slice_get p.worlds at))
+    (open_world p)
 
 -- one more type of the world at a place: an import of it under its name
 abbrev pub with_world_type : Draft → List ℕ → TypeDefKind → LineContext → ℕ → Option Draft
@@ -133,31 +126,27 @@ with_named_in p scope.World name made here =
 abbrev pub with_named : Draft → List ℕ → TypeDefKind → LineContext → Option Draft
 with_named p name made here = with_named_in p p.scope name made here
 
--- one more function of the interface at a place, where it has no function of that name
-abbrev pub with_function_at : Draft → Function → ℕ → Option Draft
-with_function_at p f at =
+-- one more function of the interface into which lines go, where it has no function of that name
+abbrev pub with_function : Draft → Function → Option Draft
+with_function p f =
+    option_and_then (λ at.
     option_and_then (λ (interface : Interface).
     if is_some (lookup (bytes_eq f.name) interface.functions) then None
     else Some (record p {
       interfaces = slice_set p.interfaces at
           (record interface { functions = interface.functions ++ (f.name, f) ∷ [] });
     }))
-    (slice_get p.interfaces at)
+    (slice_get p.interfaces at))
+    (open_interface p)
 
--- one more function of the interface into which lines go
-abbrev pub with_function : Draft → Function → Option Draft
-with_function p f = option_and_then (with_function_at p f) (open_interface p)
-
--- one more include of the world at a place
-abbrev pub with_include_at : Draft → WorldInclude → ℕ → Option Draft
-with_include_at p include_item at =
+-- one more include of the world into which lines go
+abbrev pub with_include : Draft → WorldInclude → Option Draft
+with_include p include_item =
+    option_and_then (λ at.
     option_map (λ (world : World).
     record p {
       worlds = slice_set p.worlds at
           (record world { includes = world.includes ++ include_item ∷ [] });
     })
-    (slice_get p.worlds at)
-
--- one more include of the world into which lines go
-abbrev pub with_include : Draft → WorldInclude → Option Draft
-with_include p include_item = option_and_then (with_include_at p include_item) (open_world p)
+    (slice_get p.worlds at))
+    (open_world p)

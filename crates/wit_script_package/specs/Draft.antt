@@ -5,11 +5,12 @@ use Rattle.wit_sources.specs.SourceMap.{Sources, with_file}
 use Rattle.wit_names.specs.declared.package_name.PackageName.{PackageName}
 use Rattle.wit_data.specs.declared.unresolved.UnresolvedPackageGroup.{UnresolvedPackageGroup}
 use Rattle.wit_script_lines.specs.Line.{content_start_of, content_end_of}
-use Rattle.wit_script_package.specs.Mention.{first_interfaces, first_types, first_worlds, foreign_interface, foreign_of, foreign_type, foreign_world, known_mentions, type_id_of}
+use Rattle.wit_script_package.specs.Mention.{first_interfaces, first_types, first_worlds, foreign_interface, foreign_of, foreign_type, known_mentions, type_id_of, mentioned_at}
 use Rattle.wit_script_package.specs.Naming.{OptionalSpan}
 use Rattle.wit_script_package.specs.declared.draft.Draft.{Draft}
 use Rattle.wit_script_package.specs.declared.draft.Scope.TheVariants as scope
 use Rattle.wit_script_package.specs.declared.mention.Mention.{Mention}
+use Rattle.wit_script_package.specs.Adding.{empty_world}
 
 -- how many bytes a file of a source map may have
 abbrev pub longest_file : ℕ
@@ -23,23 +24,15 @@ span_after len line =
     then Some (Some (len + content_start_of line, len + content_end_of line))
     else None
 
--- a line with its newline
-abbrev pub with_newline : List ℕ → List ℕ
-with_newline line = line ++ 10 ∷ []
-
--- the file with one more line
-abbrev pub with_text : Draft → List ℕ → Draft
-with_text p line = record p { contents = p.contents ++ with_newline line }
-
 -- the package of which a first line gives the name, and whose lines mention this of other packages. What is foreign stands
 -- in its lists before all that is its own
 abbrev pub new_draft_at : PackageName → List ℕ → List Mention → OptionalSpan → Draft
 new_draft_at name line ms span = record {
   name = name;
   name_span = span;
-  contents = with_newline line;
+  contents = line ++ 10 ∷ [];
   interfaces = map (foreign_interface ms) (first_interfaces ms);
-  worlds = map foreign_world (first_worlds ms);
+  worlds = map (λ (m : Mention). empty_world m.name (mentioned_at m)) (first_worlds ms);
   types = map (foreign_type ms) (first_types ms);
   roots = map (type_id_of ms) (first_types ms);
   required = [];
@@ -52,32 +45,25 @@ new_draft_at name line ms span = record {
 abbrev pub new_draft : PackageName → List ℕ → List Mention → Option Draft
 new_draft name line ms = option_map (new_draft_at name line (known_mentions ms)) (span_after 0 line)
 
--- a source map of one file
-abbrev pub one_file : List ℕ → List ℕ → Option Sources
-one_file path contents =
-    if nat_le (length contents) longest_file
-    then Some (with_file (record { files = []; end = 0 }) path contents)
-    else None
-
--- the package as a group of its own, with these sources
-abbrev pub group_with : Draft → Sources → UnresolvedPackageGroup
-group_with p sources = record {
-  main = record {
-    name = p.name;
-    package_name_span = p.name_span;
-    docs = record { contents = None };
-    worlds = p.worlds;
-    interfaces = p.interfaces;
-    types = p.types;
-    foreign_deps = p.foreign.deps;
-    foreign_dep_spans = p.foreign.dep_spans;
-    unknown_type_spans = p.foreign.type_spans;
-    required_resource_types = p.required;
-  };
-  nested = [];
-  source_map = sources;
-}
-
 -- the package as a group of its own, where its file fits. The file has the text of the package's name as its path
 abbrev pub as_group : Draft → Option UnresolvedPackageGroup
-as_group p = option_map (group_with p) (one_file (package_name_text p.name) p.contents)
+as_group p =
+    option_map (λ (sources : Sources). record {
+      main = record {
+        name = p.name;
+        package_name_span = p.name_span;
+        docs = record { contents = None };
+        worlds = p.worlds;
+        interfaces = p.interfaces;
+        types = p.types;
+        foreign_deps = p.foreign.deps;
+        foreign_dep_spans = p.foreign.dep_spans;
+        unknown_type_spans = p.foreign.type_spans;
+        required_resource_types = p.required;
+      };
+      nested = [];
+      source_map = sources;
+    })
+    (if nat_le (length p.contents) longest_file
+    then Some (with_file (record { files = []; end = 0 }) (package_name_text p.name) p.contents)
+    else None)

@@ -21,10 +21,12 @@ use Rattle.wit_script_lines.specs.declared.type_text.Wrap.TheVariants as wrap
 use Rattle.wit_script_lines.specs.declared.type_text.Written.{Written}
 use Rattle.wit_script_lines.specs.declared.type_text.Written.TheVariants as written
 use Rattle.wit_script_package.specs.Adding.{type_with, with_type}
-use Rattle.wit_script_package.specs.Naming.{OptionalSpan, earlier, type_named}
+use Rattle.wit_script_package.specs.Naming.{OptionalSpan, earlier}
 use Rattle.wit_script_package.specs.Role.{function_kind_of}
 use Rattle.wit_script_package.specs.declared.draft.Draft.{Draft}
 use Rattle.wit_script_package.specs.declared.draft.LineContext.{LineContext}
+use Rattle.std.specs.Option.{option_or}
+use Rattle.wit_script_lines.specs.Token.{primitive_of}
 
 -- the type at the end of aliases that a handle names is a resource; or a foreign type, which then has to be one; or the
 -- line isn't understood
@@ -33,12 +35,12 @@ with_root p span root kind.Resource = Some p
 with_root p span root kind.Unknown = Some (record p { required = p.required ++ (root, span) ∷ [] })
 with_root p span root other = None
 
-abbrev pub with_root_at : Draft → OptionalSpan → ℕ → Option Draft
-with_root_at p span root =
-    option_and_then (λ (def : TypeDef). with_root p span root def.kind) (slice_get p.types root)
-
+-- the type of this id leads to a resource, or to a foreign type, which then has to be one; or the line isn't understood
 abbrev pub with_resource : Draft → ℕ → OptionalSpan → Option Draft
-with_resource p id span = option_and_then (with_root_at p span) (slice_get p.roots id)
+with_resource p id span =
+    option_and_then (λ root.
+    option_and_then (λ (def : TypeDef). with_root p span root def.kind) (slice_get p.types root))
+    (slice_get p.roots id)
 
 -- the earlier type that a handle names
 abbrev pub handle_argument : Draft → List ℕ → OptionalSpan → Option (ℕ × Draft)
@@ -46,9 +48,12 @@ handle_argument p name span =
     option_and_then (λ (id : ℕ). option_map (λ (q : Draft). (id, q)) (with_resource p id span))
     (earlier p name)
 
--- the kind of what stands innermost in the text of a type: of a name, an alias of what it names
+-- the kind of what stands innermost in the text of a type: of a name, an alias of what it names, which is a primitive, or
+-- else an earlier type
 abbrev pub written_made : Draft → Written → OptionalSpan → Option (TypeDefKind × Draft)
-written_made p (written.Named name) span = option_map (λ ty. (kind.Type_ ty, p)) (type_named p name)
+written_made p (written.Named name) span =
+    option_map (λ ty. (kind.Type_ ty, p))
+    (option_or (primitive_of name) (option_map type.Id (earlier p name)))
 written_made p written.Future span = Some (kind.Future None, p)
 written_made p written.Stream span = Some (kind.Stream None, p)
 written_made p (written.Own name) span =
@@ -124,18 +129,17 @@ answer_made p None here = Some (None, p)
 answer_made p (Some text) here =
     option_map (λ (made : Type_ × Draft). (Some made.0, made.1)) (type_made p text here)
 
--- the function of a line, of these parts
-abbrev pub function_with : List ℕ → FunctionKind → List Param → Option Type_ → LineContext
-    → Function
-function_with name does params answer here =
-    record (new_function name does params answer) { stability = here.gate; span = here.span }
-
 -- the parameters and the result of a function, which is what its name says
 abbrev pub function_by : Draft → Signature → LineContext → FunctionKind → Option (Function × Draft)
 function_by p said here does =
-    option_and_then (λ (params : List Param × Draft). option_map
-    (λ (answer : Option Type_ × Draft).
-    (function_with said.name does params.0 answer.0 here, answer.1))
+    option_and_then (λ (params : List Param × Draft).
+    option_map (λ (answer : Option Type_ × Draft). (
+      record (new_function said.name does params.0 answer.0) {
+        stability = here.gate;
+        span = here.span;
+      },
+      answer.1,
+    ))
     (answer_made params.1 said.answer here)) (each_made (param_made here) said.params p)
 
 abbrev pub function_made : Draft → Signature → LineContext → Option (Function × Draft)

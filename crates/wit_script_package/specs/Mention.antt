@@ -2,13 +2,12 @@
 -- in the lists of a package, in the order of its first mention.
 use Rattle.std.specs.Prelude.{ℕ, ◌&&◌, not, Bool, true, false, List, [], ◌∷◌, map, filter, Option, Some, None, is_some, if◌then◌else◌, bytes_eq, unwrap_or}
 use Rattle.std.specs.List.{position_or_len}
-use Rattle.wit_data.specs.Foreign.{ForeignItem, ForeignItems}
+use Rattle.wit_data.specs.Foreign.{ForeignItem}
 use Rattle.wit_names.specs.PackageName.{same_package}
 use Rattle.wit_data.specs.declared.interface.Interface.{Interface}
 use Rattle.wit_names.specs.declared.use_path.ParsedUsePath.{ParsedUsePath}
 use Rattle.wit_data.specs.declared.stability.Stability.{Stability}
 use Rattle.wit_data.specs.declared.types.TypeDef.{TypeDef}
-use Rattle.wit_data.specs.declared.world.World.{World}
 use Rattle.wit_data.specs.declared.stability.Stability.TheVariants.{Unknown}
 use Rattle.wit_data.specs.declared.types.TypeDefKind.TheVariants as kind
 use Rattle.wit_data.specs.declared.types.TypeOwner.TheVariants as owner
@@ -16,7 +15,7 @@ use Rattle.wit_data.specs.declared.unresolved.AstItem.TheVariants as item
 use Rattle.wit_names.specs.declared.use_path.ParsedUsePath.TheVariants as path
 use Rattle.wit_script_lines.specs.declared.package_line.PackageLine.{PackageLine}
 use Rattle.wit_script_lines.specs.declared.package_line.PackageLine.TheVariants as says
-use Rattle.wit_script_package.specs.Adding.{empty_interface, empty_world, type_with}
+use Rattle.wit_script_package.specs.Adding.{empty_interface, type_with}
 use Rattle.wit_script_package.specs.Naming.{OptionalSpan}
 use Rattle.wit_script_package.specs.declared.draft.Foreign.{Foreign}
 use Rattle.wit_script_package.specs.declared.draft.LineContext.{LineContext}
@@ -84,12 +83,9 @@ first_worlds ms = firsts same_item (filter (λ m. is_world m.kind) ms)
 abbrev pub first_types : List Mention → List Mention
 first_types ms = firsts same_type (filter (λ m. is_some (used_type_name m.kind)) ms)
 
--- the place of a foreign interface, of a foreign world, of a foreign type
+-- the place of a foreign interface, of a foreign type
 abbrev pub interface_id_of : List Mention → Mention → ℕ
 interface_id_of ms m = position_or_len (same_item m) (first_interfaces ms)
-
-abbrev pub world_id_of : List Mention → Mention → ℕ
-world_id_of ms m = position_or_len (same_item m) (first_worlds ms)
 
 abbrev pub type_id_of : List Mention → Mention → ℕ
 type_id_of ms m = position_or_len (same_type m) (first_types ms)
@@ -99,7 +95,7 @@ abbrev pub foreign_item : List Mention → Mention → ForeignItem
 foreign_item ms m = (
   m.name,
   (
-    (if is_world m.kind then item.World (world_id_of ms m)
+    (if is_world m.kind then item.World (position_or_len (same_item m) (first_worlds ms))
         else item.Interface (interface_id_of ms m)),
     map (λ (n : Mention). n.gate) (filter (same_item m) ms),
   ),
@@ -116,10 +112,6 @@ foreign_interface ms m =
       types = map (λ (t : Mention). (unwrap_or (used_type_name t.kind) [], type_id_of ms t))
           (filter (same_item m) (first_types ms));
     }
-
--- a foreign world: its name
-abbrev pub foreign_world : Mention → World
-foreign_world m = empty_world m.name (mentioned_at m)
 
 -- a foreign type, with the gate of the first line that uses it
 abbrev pub foreign_type : List Mention → Mention → TypeDef

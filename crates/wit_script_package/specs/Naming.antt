@@ -1,7 +1,6 @@
 -- What the names in the lines of a package name.
 use Rattle.std.specs.Prelude.{ℕ, ◌-◌, ◌==◌, List, length, slice_get, Option, Some, None, option_and_then, if◌then◌else◌, option_map, bytes_eq}
 use Rattle.std.specs.Map.{lookup}
-use Rattle.std.specs.Option.{option_or}
 use Rattle.wit_names.specs.PackageName.{same_package}
 use Rattle.wit_data.specs.Entries.{item_type}
 use Rattle.wit_data.specs.declared.unresolved.AstItem.{AstItem}
@@ -9,15 +8,12 @@ use Rattle.wit_data.specs.declared.interface.Interface.{Interface}
 use Rattle.wit_names.specs.declared.package_name.PackageName.{PackageName}
 use Rattle.wit_names.specs.declared.use_path.ParsedUsePath.{ParsedUsePath}
 use Rattle.wit_data.specs.declared.stability.Stability.{Stability}
-use Rattle.wit_data.specs.declared.types.Type_.{Type_}
 use Rattle.wit_data.specs.declared.world.World.{World}
-use Rattle.wit_data.specs.declared.types.Type_.TheVariants as type
 use Rattle.wit_data.specs.declared.unresolved.AstItem.TheVariants as foreign
 use Rattle.wit_names.specs.declared.use_path.ParsedUsePath.TheVariants as path
 use Rattle.wit_data.specs.declared.world.WorldKey.TheVariants as key
 pub use Rattle.wit_data.specs.facts.WorldKeyFacts.{same_key}
 pub use Rattle.wit_sources.specs.Span.{OptionalSpan}
-use Rattle.wit_script_lines.specs.Token.{primitive_of}
 use Rattle.wit_script_package.specs.declared.draft.Draft.{Draft}
 use Rattle.wit_script_package.specs.declared.draft.Scope.{Scope}
 use Rattle.wit_script_package.specs.declared.draft.Scope.TheVariants as scope
@@ -48,33 +44,19 @@ type_at p name at =
     option_and_then (λ (interface : Interface). lookup (bytes_eq name) interface.types)
     (slice_get p.interfaces at)
 
--- the earlier type of this name in the interface into which lines go
-abbrev pub interface_type : Draft → List ℕ → Option ℕ
-interface_type p name = option_and_then (type_at p name) (open_interface p)
-
--- the type of this name among the imports of the world at a place
-abbrev pub world_type_at : Draft → List ℕ → ℕ → Option ℕ
-world_type_at p name at =
-    option_and_then (λ (world : World).
-    option_and_then item_type (lookup (same_key (key.Name name)) world.imports))
-    (slice_get p.worlds at)
-
--- the earlier type of this name in the world into which lines go
-abbrev pub world_type : Draft → List ℕ → Option ℕ
-world_type p name = option_and_then (world_type_at p name) (open_world p)
-
--- the earlier type of this name in the interface or the world into which lines go
+-- the earlier type of this name in the interface or the world into which lines go; in a world it is imported
 abbrev pub earlier_in : Draft → Scope → List ℕ → Option ℕ
 earlier_in p scope.Package name = None
-earlier_in p scope.Interface name = interface_type p name
-earlier_in p scope.World name = world_type p name
+earlier_in p scope.Interface name = option_and_then (type_at p name) (open_interface p)
+earlier_in p scope.World name =
+    option_and_then (λ at.
+    option_and_then (λ (world : World).
+    option_and_then item_type (lookup (same_key (key.Name name)) world.imports))
+    (slice_get p.worlds at))
+    (open_world p)
 
 abbrev pub earlier : Draft → List ℕ → Option ℕ
 earlier p name = earlier_in p p.scope name
-
--- what the name of a type names: a primitive, or else an earlier type
-abbrev pub type_named : Draft → List ℕ → Option Type_
-type_named p name = option_or (primitive_of name) (option_map type.Id (earlier p name))
 
 -- the interface or world of another package that this names
 abbrev pub foreign_named : Draft → PackageName → List ℕ → Option AstItem
@@ -101,7 +83,3 @@ interface_named p (path.Package parent name) =
 abbrev pub world_named : Draft → ParsedUsePath → Option ℕ
 world_named p (path.Name name) = lookup (bytes_eq name) p.world_ids
 world_named p (path.Package parent name) = option_and_then world_of (foreign_named p parent name)
-
--- the type of this name in the interface that a path names
-abbrev pub used_type : Draft → ParsedUsePath → List ℕ → Option ℕ
-used_type p from name = option_and_then (type_at p name) (interface_named p from)

@@ -14,10 +14,6 @@ abbrev pub is_plain : List ℕ → Bool
 is_plain [] = false
 is_plain (b ∷ bs) = not (b == 91)
 
--- the resource of a constructor: an earlier type
-abbrev pub constructor_resource : Draft → List ℕ → Option ℕ
-constructor_resource p rest = if is_plain rest then earlier p rest else None
-
 -- the resource of a member, which is the part before the first dot: an earlier type
 abbrev pub member_of : Draft → List ℕ → Option ℕ
 member_of p rest =
@@ -29,23 +25,15 @@ member_of p rest =
 abbrev pub freestanding : FunctionKind → List ℕ → Option FunctionKind
 freestanding does rest = if is_plain rest then Some does else None
 
--- what follows `[method]`
-abbrev pub method_role : Draft → List ℕ → Option FunctionKind
-method_role p rest =
-    option_map_or (λ more. option_map role.MethodGetter (member_of p more))
+-- what follows `[method]` or `[static]`: a getter, a setter or another member
+abbrev pub member_role : (ℕ → FunctionKind) → (ℕ → FunctionKind) → (ℕ → FunctionKind) → Draft
+    → List ℕ → Option FunctionKind
+member_role getter setter other p rest =
+    option_map_or (λ more. option_map getter (member_of p more))
     (after_prefix (codes "[get]") rest)
-    (option_map_or (λ more. option_map role.MethodSetter (member_of p more))
+    (option_map_or (λ more. option_map setter (member_of p more))
     (after_prefix (codes "[set]") rest)
-    (option_map role.Method (member_of p rest)))
-
--- what follows `[static]`
-abbrev pub static_role : Draft → List ℕ → Option FunctionKind
-static_role p rest =
-    option_map_or (λ more. option_map role.StaticGetter (member_of p more))
-    (after_prefix (codes "[get]") rest)
-    (option_map_or (λ more. option_map role.StaticSetter (member_of p more))
-    (after_prefix (codes "[set]") rest)
-    (option_map role.Static (member_of p rest)))
+    (option_map other (member_of p rest)))
 
 -- a name without the groups of a resource
 abbrev pub freestanding_kind : List ℕ → Option FunctionKind
@@ -54,9 +42,13 @@ freestanding_kind name =
     (option_map_or (freestanding role.Setter) (after_prefix (codes "[set]") name)
     (freestanding role.Freestanding name))
 
+-- what the name of a function makes of it; the resource of a constructor is an earlier type
 abbrev pub function_kind_of : Draft → List ℕ → Option FunctionKind
 function_kind_of p name =
-    option_map_or (λ rest. option_map role.Constructor (constructor_resource p rest))
+    option_map_or (λ rest.
+    option_map role.Constructor (if is_plain rest then earlier p rest else None))
     (after_prefix (codes "[constructor]") name)
-    (option_map_or (method_role p) (after_prefix (codes "[method]") name)
-    (option_map_or (static_role p) (after_prefix (codes "[static]") name) (freestanding_kind name)))
+    (option_map_or (member_role role.MethodGetter role.MethodSetter role.Method p)
+    (after_prefix (codes "[method]") name)
+    (option_map_or (member_role role.StaticGetter role.StaticSetter role.Static p)
+    (after_prefix (codes "[static]") name) (freestanding_kind name)))

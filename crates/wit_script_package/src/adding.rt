@@ -1,7 +1,8 @@
 //! What a line adds to the interfaces, worlds and types of a package.
 ghost use Rattle.std.specs.Prelude.{◌≡◌, ◌<◌, length, IfOk, OnOk};
-ghost use Rattle.wit_script_package.specs.Adding.{empty_interface, empty_world, root_of, type_with, with_export, with_export_at, with_function, with_function_at, with_import, with_import_at, with_include, with_include_at, with_interface, with_interface_type, with_named, with_type, with_type_name, with_world, with_world_type};
+ghost use Rattle.wit_script_package.specs.Adding.{empty_interface, empty_world, root_of, type_with, with_export, with_function, with_import, with_import_at, with_include, with_interface, with_interface_type, with_named, with_type, with_world, with_world_type};
 ghost use Rattle.wit_script_package.specs.steps.DraftResult.{DraftResult};
+ghost use Rattle.wit_script_package.specs.steps.Parts.{with_export_at, with_function_at, with_include_at, with_type_name};
 
 use crate::draft::{Draft, LineContext, Scope};
 use std::alloc::{AllocError, Global};

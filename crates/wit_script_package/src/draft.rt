@@ -1,12 +1,13 @@
 //! A package of which some lines are read.
 ghost use Rattle.std.specs.Prelude.{◌≡◌, ◌++◌, [], length, IfOk, OnOk};
 ghost use Rattle.wit_script_package.specs.steps.DraftResult.{DraftResult};
-ghost use Rattle.wit_script_package.specs.Draft.{as_group, new_draft, new_draft_at, one_file, span_after, with_newline, with_text};
+ghost use Rattle.wit_script_package.specs.Draft.{as_group, new_draft, new_draft_at, span_after};
 ghost use Rattle.wit_script_package.specs.Lines.{with_line};
 ghost use Rattle.wit_script_package.specs.steps.Built.{IsBuilt};
 ghost use Rattle.wit_script_package.specs.steps.Pushable.{IsPushable};
 ghost use Rattle.wit_data.specs.Shape.{IsGroupShaped};
 ghost use Rattle.wit_script_lines.specs.steps.ReadResult.{IsRead};
+ghost use Rattle.wit_script_package.specs.steps.Parts.{with_newline, with_text, one_file};
 
 use crate::mention::Mention;
 use std::alloc::{AllocError, Global};

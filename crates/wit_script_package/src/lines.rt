@@ -1,7 +1,8 @@
 //! What each line makes of a package.
 ghost use Rattle.std.specs.Prelude.{◌≡◌, IfOk};
 ghost use Rattle.wit_script_package.specs.steps.DraftResult.{DraftResult};
-ghost use Rattle.wit_script_package.specs.Lines.{include_item, interface_entry, key_of, with_export_line, with_exported_function, with_function_line, with_gated_line, with_import_line, with_imported_function, with_include_line, with_record, with_type_line, with_use};
+ghost use Rattle.wit_script_package.specs.Lines.{interface_entry, key_of, with_gated_line};
+ghost use Rattle.wit_script_package.specs.steps.Parts.{with_type_line, with_record, with_use, with_function_line, with_import_line, with_export_line, with_imported_function, with_exported_function, include_item, with_include_line};
 
 use crate::draft::{Draft, LineContext};
 use std::alloc::{AllocError, Global};

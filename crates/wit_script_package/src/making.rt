@@ -1,7 +1,8 @@
 //! What the texts of types make, and functions with them.
 ghost use Rattle.std.specs.Prelude.{◌≡◌, Some, IfOk};
 ghost use Rattle.wit_script_package.specs.steps.DraftResult.{DraftResult, Makes};
-ghost use Rattle.wit_script_package.specs.Making.{answer_made, around, each_made, field_made, forms_made, function_by, function_made, function_with, handle_argument, kind_made, param_made, type_made, type_of, with_resource, with_root_at, written_made};
+ghost use Rattle.wit_script_package.specs.Making.{answer_made, around, each_made, field_made, forms_made, function_by, function_made, handle_argument, kind_made, param_made, type_made, type_of, with_resource, written_made};
+ghost use Rattle.wit_script_package.specs.steps.Parts.{with_root_at, function_with};
 
 use crate::adding::new_type;
 use crate::draft::{Draft, LineContext};

@@ -1,7 +1,8 @@
 //! What the names in the lines of a package name.
 ghost use Rattle.std.specs.Prelude.{◌≡◌, ◌<◌, length, IfOk, IfSome};
-ghost use Rattle.wit_script_package.specs.Naming.{earlier, foreign_named, interface_named, interface_of, interface_type, open_interface, open_world, type_at, type_named, used_type, world_named, world_of, world_type, world_type_at};
+ghost use Rattle.wit_script_package.specs.Naming.{earlier, foreign_named, interface_named, interface_of, open_interface, open_world, type_at, world_named, world_of};
 ghost use Rattle.wit_script_lines.specs.steps.ReadResult.{IsRead};
+ghost use Rattle.wit_script_package.specs.steps.Parts.{interface_type, world_type_at, world_type, type_named, used_type};
 
 use crate::draft::{Draft, Scope};
 use std::alloc::{AllocError, Global};

@@ -1,7 +1,8 @@
 //! What the groups that lead a function's name make of it.
 ghost use Rattle.std.specs.Prelude.{◌≡◌};
-ghost use Rattle.wit_script_package.specs.Role.{constructor_resource, freestanding, freestanding_kind, function_kind_of, is_plain, member_of, method_role, static_role};
+ghost use Rattle.wit_script_package.specs.Role.{freestanding, freestanding_kind, function_kind_of, is_plain, member_of};
 ghost use Rattle.wit_script_lines.specs.steps.ReadResult.{IsRead};
+ghost use Rattle.wit_script_package.specs.steps.Parts.{constructor_resource, method_role, static_role};
 
 use crate::draft::Draft;
 use std::alloc::Global;

@@ -6,12 +6,16 @@ use Rattle.std.specs.Prelude.{slice_get}
 use Rattle.wit_data.specs.declared.unresolved.UnresolvedPackage.{UnresolvedPackage}
 use Rattle.wit_data.specs.declared.unresolved.UnresolvedPackageGroup.{UnresolvedPackageGroup}
 use Rattle.wit_graph_data.specs.declared.features.Features.{Features}
-use Rattle.wit_ways.specs.Coming.{coming_packages, joined, packages_at, placed_packages}
+use Rattle.wit_ways.specs.Coming.{coming_packages, joined, placed_packages}
 use Rattle.wit_ways.specs.declared.arrow.Arrow.{Arrow}
 use Rattle.wit_ways.specs.declared.coming.Coming.{Coming}
 use Rattle.wit_ways.specs.declared.include.Include.{Include}
 use Rattle.wit_ways.specs.declared.world_name.WorldPlace.{WorldPlace}
 use Rattle.wit_ways.proofs.Ranges.{drop_next}
+
+-- the packages of a group, the nested ones before the main one, each with a position
+abbrev pub packages_at : ℕ → UnresolvedPackageGroup → List (ℕ × UnresolvedPackage)
+packages_at offset group = map (λ p. (offset, p)) (group.nested ++ group.main ∷ [])
 
 abbrev pub made : List Arrow → List Arrow → List Include → List WorldPlace → Coming
 made dependencies arrows includes worlds = record { dependencies = dependencies; arrows = arrows; includes = includes; worlds = worlds }

@@ -1,11 +1,12 @@
 -- A way from a type of a name back to it.
-use Rattle.std.proofs.Common.{◌≡◌, ◌<◌, ◌≤◌, ◌+◌, ◌∙◌, ℕ, List, [], ◌∷◌, None, Some, arith, false, inl, inr, length, refl, subst, sym, true}
+use Rattle.std.proofs.Common.{◌≡◌, ◌<◌, ◌≤◌, ◌+◌, ◌∙◌, ℕ, List, [], ◌∷◌, None, Some, arith, false, inl, inr, length, refl, subst, sym, true, bytes_eq}
+use Rattle.std.specs.Option.{option_map_or}
 use Rattle.std.specs.Prelude.{slice_get}
 use Rattle.std.proofs.lemmas.Bool.{cases_eq}
 use Rattle.std.proofs.lemmas.Option.{slice_get_within}
 use Rattle.wit_data.specs.declared.types.TypeDef.{TypeDef}
 use Rattle.wit_graph_data.specs.declared.graph.Graph.{Graph}
-use Rattle.wit_ways.specs.Told.{IsRoundAt, IsTypeRound, is_called}
+use Rattle.wit_ways.specs.Told.{IsRoundAt, IsTypeRound}
 use Rattle.wit_ways.specs.TypeArrows.{type_text}
 use Rattle.wit_ways.specs.Ways.{IsRound}
 use Rattle.wit_ways.specs.declared.arrow.Arrow.{Arrow}
@@ -25,7 +26,7 @@ module _ (g : Graph) (arrows : List Arrow) (name : List ℕ) where
   pub none_at_all : (n : ℕ) → length g.types ≤ n → ((k : ℕ) → k < n → IsRoundAt g arrows name k []) → IsTypeRound g arrows name []
   none_at_all n all below = λ id def there. let within = slice_get_within g.types id def there in below id (omega (arith, all, within)) def there
 
-  pub round_of : (id : ℕ) (def : TypeDef) (way : List Arrow) → slice_get g.types id ≡ Some def → is_called name def ≡ true
+  pub round_of : (id : ℕ) (def : TypeDef) (way : List Arrow) → slice_get g.types id ≡ Some def → option_map_or (bytes_eq name) def.name false ≡ true
       → IsRound arrows (type_text g id) way → IsRoundAt g arrows name id way
   round_of id def [] there called is = λ other other_there other_called. is
   round_of id def (a ∷ way) there called is = (def, there, called, is)
@@ -36,8 +37,8 @@ module _ (g : Graph) (arrows : List Arrow) (name : List ℕ) where
       differ : {x : TypeDef} → None ≡ Some x → ⊥
       differ same = cc
 
-  pub other_name : (id : ℕ) (def : TypeDef) → slice_get g.types id ≡ Some def → is_called name def ≡ false → IsRoundAt g arrows name id []
+  pub other_name : (id : ℕ) (def : TypeDef) → slice_get g.types id ≡ Some def → option_map_or (bytes_eq name) def.name false ≡ false → IsRoundAt g arrows name id []
   other_name id def there apart = λ other other_there called. absurd (differ other (sym there ∙ other_there) called)
     where
-      differ : (other : TypeDef) → Some def ≡ Some other → is_called name other ≡ true → ⊥
+      differ : (other : TypeDef) → Some def ≡ Some other → option_map_or (bytes_eq name) other.name false ≡ true → ⊥
       differ other same called = cc

@@ -137,10 +137,6 @@ package_arrows g p =
     (λ q. arrow_between (home_text g.packages (Some p)) None (home_text g.packages (Some q)))
     (package_direct_deps g.types g.interfaces g.worlds g.packages p)
 
--- what the packages of a graph depend on
-abbrev pub dependencies_in : Graph → List Arrow
-dependencies_in g = flat_map (package_arrows g) (range_with_len 0 (length g.packages))
-
 -- the interface that an entry of a world names, itself or by a type that it uses, and the span of the entry
 abbrev pub named_by : Graph → WorldItem → Option (ℕ × OptionalSpan)
 named_by g (item.Interface i stability docs span external_id) = Some (i, span)
@@ -175,7 +171,7 @@ entries_in features offset g names on =
 -- which interface uses which, and what worlds have on a side
 abbrev pub graph_arrows : ℕ → Graph → WorldSide → List Arrow
 graph_arrows offset g on =
-    dependencies_in g
+    flat_map (package_arrows g) (range_with_len 0 (length g.packages))
     ++ (world_dependencies offset g (home_texts g) side.Imports
     ++ (world_dependencies offset g (home_texts g) side.Exports
     ++ (uses_in all_on offset g.types g.interfaces (home_texts g)

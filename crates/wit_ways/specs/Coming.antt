@@ -38,15 +38,12 @@ joined a b = record {
   worlds = a.worlds ++ b.worlds;
 }
 
--- the packages of a group, the nested ones before the main one, each with the position at which the group's files begin
-abbrev pub packages_at : ℕ → UnresolvedPackageGroup → List (ℕ × UnresolvedPackage)
-packages_at offset group = map (λ p. (offset, p)) (group.nested ++ group.main ∷ [])
-
--- those of groups, where the files of the first begin at this position and those of the others follow. Groups whose files begin
--- past 4294967295 are left out
+-- the packages of groups, in each the nested ones before the main one, each with the position at which its files begin: those of
+-- the first group at this one, and those of the others follow. Groups whose files begin past 4294967295 are left out
 abbrev pub placed_packages : ℕ → List UnresolvedPackageGroup → List (ℕ × UnresolvedPackage)
 placed_packages at [] = []
 placed_packages at (group ∷ groups) =
     if nat_lt at (2 ^ 32)
-    then packages_at at group ++ placed_packages (at + group.source_map.end) groups
+    then map (λ p. (at, p)) (group.nested ++ group.main ∷ [])
+    ++ placed_packages (at + group.source_map.end) groups
     else []

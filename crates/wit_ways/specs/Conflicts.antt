@@ -1,5 +1,5 @@
 -- The way of exports in conflict (4): past what isn't exported to what is.
-use Rattle.std.specs.Prelude.{◌≡◌, ◌⊎◌, ◌<◌, ℕ, false, List, [], ◌∷◌, ◌++◌, length, filter_map, Option, None, Some, if◌then◌else◌}
+use Rattle.std.specs.Prelude.{◌≡◌, ◌⊎◌, ◌<◌, ℕ, false, List, [], ◌∷◌, ◌++◌, length, filter_map, Option, None, Some, if◌then◌else◌, fold}
 use Rattle.wit_resolve_graph.specs.State.{State}
 use Rattle.wit_sources.specs.Span.{OptionalSpan}
 use Rattle.wit_ways.specs.Asked.{chosen_keys, coming_includes, coming_worlds, known_arrows}
@@ -17,16 +17,11 @@ use Rattle.wit_ways.specs.declared.world_name.WorldName.{WorldName}
 abbrev pub with_name : List (List ℕ) → List ℕ → List (List ℕ)
 with_name names name = if is_among names name then names else names ++ name ∷ []
 
-abbrev pub with_names : List (List ℕ) → List (List ℕ) → List (List ℕ)
-with_names names [] = names
-with_names names (name ∷ more) = with_names (with_name names name) more
-
--- what stands under these labels
-abbrev pub export_of : List (List ℕ) → Arrow → Option (List ℕ)
-export_of labels a = if is_among labels a.from then Some a.to else None
-
+-- what stands under these labels, each once
 abbrev pub exported_by : List (List ℕ) → List Arrow → List (List ℕ)
-exported_by labels arrows = with_names [] (filter_map (export_of labels) arrows)
+exported_by labels arrows =
+    fold with_name []
+    (filter_map (λ (a : Arrow). if is_among labels a.from then Some a.to else None) arrows)
 
 -- a label, and those of included worlds that it is
 abbrev pub AreSameLabels : List Arrow → List ℕ → List (List ℕ) → Type 0
@@ -42,7 +37,7 @@ AreExports includes arrows own names =
 -- what is exported where exports are in conflict: what an `exportize` chooses, or what this world exports
 abbrev pub AreExported : Asked → List Arrow → Option WorldName → Option (List (List ℕ))
     → List (List ℕ) → Type 0
-AreExported asked arrows world (Some keys) names = names ≡ with_names [] keys
+AreExported asked arrows world (Some keys) names = names ≡ fold with_name [] keys
 AreExported asked arrows (Some world) None names =
     AreExports (coming_includes asked) arrows (label_text world []) names
 AreExported asked arrows None None names = names ≡ []
@@ -55,7 +50,7 @@ abbrev pub IsLabelWay : List Arrow → List Arrow → List (List ℕ) → List �
 IsLabelWay arrows included exported start way =
     (labels : List (List ℕ)) × AreSameLabels included start labels
     × IsChosen (arrows ++ included)
-    (with_names (with_names exported labels) (exported_by labels arrows)) start false way
+    (fold with_name (fold with_name exported labels) (exported_by labels arrows)) start false way
 
 -- from the label of a name of a world, where there is one
 abbrev pub IsWorldWay : Asked → List Arrow → List (List ℕ) → List ℕ → Option WorldName → List Arrow

@@ -1,5 +1,5 @@
 -- The way of a refusal: how what it names leads back to itself, or past what isn't exported to what is.
-use Rattle.std.specs.Prelude.{◌≡◌, ℕ, Bool, true, false, List, [], ◌∷◌, slice_get, Some, bytes_eq}
+use Rattle.std.specs.Prelude.{◌≡◌, ℕ, true, false, List, [], ◌∷◌, slice_get, Some, bytes_eq}
 use Rattle.std.specs.Option.{option_map_or}
 use Rattle.wit_data.specs.declared.types.TypeDef.{TypeDef}
 use Rattle.wit_names.specs.PackageName.{package_name_text}
@@ -25,17 +25,15 @@ IsPackageRound state (asks.Push coming) owner way =
 IsPackageRound state asked owner way =
     IsRound (known_arrows state asked) (package_name_text owner) way
 
--- a type has this name
-abbrev pub is_called : List ℕ → TypeDef → Bool
-is_called name def = option_map_or (bytes_eq name) def.name false
-
 -- a way from type id back to it, where it has this name; else none
 abbrev pub IsRoundAt : Graph → List Arrow → List ℕ → ℕ → List Arrow → Type 0
 IsRoundAt g arrows name id [] =
-    (def : TypeDef) → slice_get g.types id ≡ Some def → is_called name def ≡ true
+    (def : TypeDef) → slice_get g.types id ≡ Some def
+    → option_map_or (bytes_eq name) def.name false ≡ true
     → IsRound arrows (type_text g id) []
 IsRoundAt g arrows name id (a ∷ way) =
-    (def : TypeDef) × (slice_get g.types id ≡ Some def) × (is_called name def ≡ true)
+    (def : TypeDef) × (slice_get g.types id ≡ Some def)
+    × (option_map_or (bytes_eq name) def.name false ≡ true)
     × IsRound arrows (type_text g id) (a ∷ way)
 
 -- 23: from one of the types of a name; none where none of them leads back to itself

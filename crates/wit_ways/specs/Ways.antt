@@ -33,11 +33,7 @@ AreReached arrows from names =
     → (is_among names name ≡ true)
     ↔ ((a : Arrow) × (way : List Arrow) × IsWay arrows [] from true (a ∷ way) name true)
 
--- ` -> ` and where an arrow leads
-abbrev pub step_text : Arrow → List ℕ
-step_text a = codes " -> " ++ a.to
-
 -- `A -> B -> .. -> C`
 abbrev pub way_names : List Arrow → List ℕ
 way_names [] = []
-way_names (a ∷ way) = a.from ++ flat_map step_text (a ∷ way)
+way_names (a ∷ way) = a.from ++ flat_map (λ (step : Arrow). codes " -> " ++ step.to) (a ∷ way)

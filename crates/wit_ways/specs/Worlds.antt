@@ -31,14 +31,11 @@ abbrev pub same_span : OptionalSpan → OptionalSpan → Bool
 same_span (Some a) (Some b) = (a.0 == b.0) && (a.1 == b.1)
 same_span _ _ = false
 
--- a world stands at a span, which is known
-abbrev pub stands_at : OptionalSpan → WorldPlace → Bool
-stands_at span place = same_span span place.span
-
--- the first of some worlds that stands at a span
+-- the first of some worlds that stands at a span, which is known
 abbrev pub find_world : List WorldPlace → OptionalSpan → Option WorldName
 find_world worlds span =
-    option_map (λ (place : WorldPlace). place.world) (find (stands_at span) worlds)
+    option_map (λ (place : WorldPlace). place.world)
+    (find (λ (place : WorldPlace). same_span span place.span) worlds)
 
 -- the world that stands at a span: of a graph, or else of what comes
 abbrev pub world_at : Graph → List WorldPlace → OptionalSpan → Option WorldName

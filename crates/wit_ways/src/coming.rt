@@ -1,6 +1,6 @@
 //! What comes with a command: packages, or a graph.
-ghost use Rattle.std.specs.Prelude.{◌≡◌, ◌∷◌, [], IfOk, OnOk};
-ghost use Rattle.wit_ways.specs.Coming.{coming_graph, coming_packages, joined, packages_at, placed_packages};
+ghost use Rattle.std.specs.Prelude.{◌≡◌, ◌∷◌, [], IfOk, OnOk, map, ◌++◌};
+ghost use Rattle.wit_ways.specs.Coming.{coming_graph, coming_packages, joined, placed_packages};
 
 use crate::arrow::Arrow;
 use crate::entries::WorldSide;
@@ -82,7 +82,9 @@ impl Coming {
         group: &UnresolvedPackageGroup,
     ) -> Result<(), AllocError>
         ensures { OnOk result (self.new
-            ≡ joined self.old (coming_packages features.now (packages_at offset group.now))) }
+            ≡ joined self.old
+            (coming_packages features.now
+            (map (λ p. (offset, p)) (group.now.nested ++ group.now.main ∷ [])))) }
     {
         for package in group.nested.as_slice() {
             self.add_package(alloc, features, offset, package)?;

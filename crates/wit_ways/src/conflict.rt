@@ -1,7 +1,7 @@
 //! The way of exports in conflict: past what isn't exported to what is.
-ghost use Rattle.std.specs.Prelude.{◌≡◌, IfOk, OnOk, [], option_copied};
+ghost use Rattle.std.specs.Prelude.{◌≡◌, IfOk, OnOk, [], fold, option_copied};
 ghost use Rattle.wit_ways.specs.Asked.{chosen_keys};
-ghost use Rattle.wit_ways.specs.Conflicts.{AreExported, AreExports, AreSameLabels, IsConflictWay, IsLabelWay, exported_by, with_names};
+ghost use Rattle.wit_ways.specs.Conflicts.{AreExported, AreExports, AreSameLabels, IsConflictWay, IsLabelWay, exported_by, with_name};
 
 use crate::arrow::Arrow;
 use crate::asked::{Asked, known_arrows};
@@ -96,7 +96,7 @@ fn exported(
 
 /// These names, each once.
 fn names_of(alloc: Global, names: &[Text]) -> Result<NameSet, AllocError>
-    ensures { IfOk result (λ set. set ≡ with_names [] names.now) }
+    ensures { IfOk result (λ set. set ≡ fold with_name [] names.now) }
 {
     let mut set = NameSet::new(alloc);
     for name in names {
@@ -107,7 +107,7 @@ fn names_of(alloc: Global, names: &[Text]) -> Result<NameSet, AllocError>
 
 /// Adds names to others.
 fn add_names(alloc: Global, names: &mut NameSet, more: &NameSet) -> Result<(), AllocError>
-    ensures { OnOk result (names.new ≡ with_names names.old more.now) }
+    ensures { OnOk result (names.new ≡ fold with_name names.old more.now) }
 {
     for index in 0..more.len() {
         names.insert(alloc, more.text_at(index))?;

@@ -1,7 +1,8 @@
 //! What leads where in a graph: which package depends on which, which interface uses which, and what worlds have.
-ghost use Rattle.std.specs.Prelude.{◌≡◌, ◌++◌, ◌<◌, IfOk, None, OnOk, Some, filter_map, length, option_copied};
+ghost use Rattle.std.specs.Prelude.{◌≡◌, ◌++◌, ◌<◌, IfOk, None, OnOk, Some, filter_map, length, option_copied, flat_map};
+ghost use Rattle.std.specs.List.{range_with_len};
 ghost use Rattle.wit_data.specs.Entries.{Entry};
-ghost use Rattle.wit_ways.specs.Arrows.{all_on, arrow_between, dependencies_in, dependency_of, entries_in, graph_arrows, home_of, home_text, home_texts, interface_text, interface_texts, listed_by, named_by, package_arrows, world_dependencies};
+ghost use Rattle.wit_ways.specs.Arrows.{all_on, arrow_between, dependency_of, entries_in, graph_arrows, home_of, home_text, home_texts, interface_text, interface_texts, listed_by, named_by, package_arrows, world_dependencies};
 
 use crate::arrow::{Arrow, arrow_between, called, item_text, package_text, placed};
 use crate::entries::{WorldSide, add_entries, entries_of};
@@ -114,7 +115,9 @@ fn home_text(
 
 /// What the packages of a graph depend on.
 fn dependencies_in(alloc: Global, graph: &Graph) -> Result<Items<Arrow>, AllocError>
-    ensures { IfOk result (λ arrows. arrows ≡ dependencies_in graph.now) }
+    ensures { IfOk result (λ arrows. arrows
+        ≡ flat_map (package_arrows graph.now)
+        (range_with_len 0 (length graph.now.packages))) }
 {
     let mut arrows = Items::new(alloc);
     for index in 0..graph.packages.len() {

@@ -1,7 +1,8 @@
 //! Ways as texts.
-ghost use Rattle.std.specs.Prelude.{◌≡◌, IfOk, string_bytes};
+ghost use Rattle.std.specs.Prelude.{◌≡◌, IfOk, string_bytes, ◌++◌, codes};
 ghost use Rattle.std.specs.List.{flat_map};
-ghost use Rattle.wit_ways.specs.Ways.{step_text, way_names};
+ghost use Rattle.wit_ways.specs.Ways.{way_names};
+ghost use Rattle.wit_ways.specs.declared.arrow.Arrow.{Arrow};
 
 use crate::arrow::Arrow;
 use std::alloc::{AllocError, Global};
@@ -20,7 +21,8 @@ pub fn way_names(alloc: Global, way: &[Arrow]) -> Result<String, AllocError>
 
 /// ` -> A -> B`, where arrows lead.
 fn steps_text(alloc: Global, way: &[Arrow]) -> Result<String, AllocError>
-    ensures { IfOk result (λ text. string_bytes text ≡ flat_map step_text way.now) }
+    ensures { IfOk result (λ text.
+        string_bytes text ≡ flat_map (λ (step : Arrow). codes " -> " ++ step.to) way.now) }
 {
     let mut text = String::new(alloc);
     for arrow in way {

@@ -1,9 +1,10 @@
 //! The way of a refusal: how what it names leads back to itself, or past what isn't exported to what is.
-ghost use Rattle.std.specs.Prelude.{◌≡◌, ◌++◌, ℕ, IfOk, List, MatchOption};
+ghost use Rattle.std.specs.Prelude.{◌≡◌, ◌++◌, ℕ, IfOk, List, MatchOption, false, bytes_eq};
+ghost use Rattle.std.specs.Option.{option_map_or};
 ghost use Rattle.wit_elaboration.specs.steps.Parts.{interface_cycle_text, type_cycle_text};
 ghost use Rattle.wit_ways.specs.Asked.{asked_graph, known_arrows};
 ghost use Rattle.wit_ways.specs.TypeArrows.{type_arrows};
-ghost use Rattle.wit_ways.specs.Told.{IsPackageRound, IsRoundAt, IsTold, IsTypeRound, is_called};
+ghost use Rattle.wit_ways.specs.Told.{IsPackageRound, IsRoundAt, IsTold, IsTypeRound};
 ghost use Rattle.wit_ways.specs.Ways.{IsRound};
 
 use crate::arrow::{Arrow, package_text};
@@ -155,7 +156,7 @@ fn round_at(
 
 /// Whether a type has this name.
 fn is_called(def: &TypeDef, name: &str) -> bool
-    ensures { result ≡ is_called name.now def.now }
+    ensures { result ≡ option_map_or (bytes_eq name.now) def.now.name false }
 {
     match &def.name {
         Some(own) => name == own.as_str(),

@@ -1,6 +1,6 @@
 //! Worlds by name, their labels, and where they stand.
-ghost use Rattle.std.specs.Prelude.{◌≡◌, ◌++◌, IfOk, OnOk, option_copied};
-ghost use Rattle.wit_ways.specs.Worlds.{find_world, graph_worlds, label_text, stands_at, world_at, world_place};
+ghost use Rattle.std.specs.Prelude.{◌≡◌, IfOk, option_copied, ◌++◌, OnOk};
+ghost use Rattle.wit_ways.specs.Worlds.{find_world, graph_worlds, label_text, same_span, world_at, world_place};
 
 use crate::arrow::{item_text, placed};
 use crate::graph_arrow::home_of;
@@ -95,7 +95,7 @@ fn find_world(worlds: &[WorldPlace], span: Span) -> Option<&WorldName>
 
 /// Whether a world stands at a span, which is known.
 fn stands_at(place: &WorldPlace, span: Span) -> bool
-    ensures { result ≡ stands_at span place.now }
+    ensures { result ≡ same_span span place.now.span }
 {
     span.is_known() && place.span == span
 }

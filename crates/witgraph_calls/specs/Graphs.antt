@@ -17,16 +17,13 @@ use Rattle.wit_resolve_graph.specs.State.{State}
 
 -- ---- commands
 
--- the replies to commands, in order
-abbrev pub json_of_replies : List Response → Json
-json_of_replies replies = object (member (codes "replies") (list_of json_of_response replies))
-
--- commands are carried out on a graph, which becomes another one, and their replies are this text
+-- commands are carried out on a graph, which becomes another one, and their replies in order are this text
 pub record Replies (old : State) (commands : List Order) (new : State) (text : List ℕ)
     : Type 0 where
   pub replies : List Response
   pub responds : RespondsEach old commands replies new
-  pub text_is : text ≡ compact (json_of_replies replies)
+  pub text_is : text
+      ≡ compact (object (member (codes "replies") (list_of json_of_response replies)))
 
 -- ---- documents
 

@@ -1,10 +1,12 @@
 //! Documents that are carried out on a graph that stays.
-ghost use Rattle.std.specs.Prelude.{◌≡◌, ◌⊎◌, ◌≤◌, [], ℕ, Err, IfErr, IfOk, IfSome, MatchOption, OnErr, OnOk, Some, string_bytes};
+ghost use Rattle.std.specs.Prelude.{◌≡◌, ◌⊎◌, ◌≤◌, [], ℕ, Err, IfErr, IfOk, IfSome, MatchOption, OnErr, OnOk, Some, string_bytes, codes};
 ghost use Rattle.std.specs.Str.{IsUtf8};
 ghost use Rattle.wit_json.specs.Graph.{compact};
+ghost use Rattle.wit_json.specs.Values.{list_of, member, object};
+ghost use Rattle.wit_json_commands.specs.Answers.{json_of_response};
 ghost use Rattle.wit_json_commands.specs.Documents.{BeginsValid, TellsFault, TellsPlace};
 ghost use Rattle.wit_json_commands.specs.steps.Outcomes.{Begins, TellsFaultOf};
-ghost use Rattle.witgraph_calls.specs.Graphs.{Applies, Replies, start_for, json_of_replies, text_of_state};
+ghost use Rattle.witgraph_calls.specs.Graphs.{Applies, Replies, start_for, text_of_state};
 ghost use Rattle.witgraph_calls.specs.News.{LeavesTold, told_nothing};
 
 use crate::news::{NOTHING, told_after};
@@ -135,7 +137,8 @@ fn reply(alloc: Global, resolve: &mut Resolve, commands: Items<Order>) -> Option
 /// The replies to commands, without a space. The only error is want of memory.
 fn replies_to_json(alloc: Global, replies: &Items<Response>) -> Result<String, AllocError>
     ensures { IfOk result
-        (λ text. string_bytes text ≡ compact (json_of_replies replies.now)) }
+        (λ text. string_bytes text
+        ≡ compact (object (member (codes "replies") (list_of json_of_response replies.now)))) }
 {
     let mut out = JsonText::new(alloc);
     out.begin_object()?;

@@ -5,7 +5,8 @@ use Rattle.std.proofs.lemmas.List.{append-nil, length-append}
 use Rattle.std.proofs.lemmas.List.Sums.{fold-append}
 use Rattle.std.specs.List.{enumerate_from, flat_map}
 use Rattle.witgraph_dot.specs.Listed.{and_link, and_links, has_link, listed_for, with_links}
-use Rattle.witgraph_dot.specs.Pushed.{links_for, repeated, with_brought, world_links}
+use Rattle.witgraph_dot.specs.Pushed.{repeated}
+use Rattle.witgraph_dot.specs.steps.Parts.{links_for, world_links, with_brought}
 
 -- what lines list for one world is added as things of that world
 for-one : (links : List (ℕ × ℕ)) (things : List ℕ) (w : ℕ) → with_links links (links_for things w) ≡ and_links links w things

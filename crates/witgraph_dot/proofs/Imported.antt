@@ -3,10 +3,11 @@ use Rattle.std.proofs.Common.{◌≡◌, ◌∙◌, ◌++◌, ℕ, List, Result,
 use Rattle.witgraph_dot.proofs.Appended.{appended-ok}
 use Rattle.witgraph_dot.specs.Bundles.{bundle, frame_arrows, whole_frames}
 use Rattle.witgraph_dot.specs.Listed.{listed_for}
-use Rattle.witgraph_dot.specs.Scene.{View, brought_imports, import_arrows, import_frames, included_arrows, included_imports, included_worlds, left_imports, shown_imports, single_imports}
+use Rattle.witgraph_dot.specs.Scene.{View, import_arrows, import_frames, included_imports, included_worlds, shown_imports}
 use Rattle.witgraph_dot.specs.Sets.{intersection, without}
 use Rattle.witgraph_dot.specs.declared.arrow.Arrow.{Arrow}
 use Rattle.witgraph_dot.specs.declared.arrow.ArrowKind.TheVariants as kind
+use Rattle.witgraph_dot.specs.steps.Parts.{included_arrows, left_imports, brought_imports, single_imports}
 
 -- what stands in whole frames of what included worlds import
 abbrev bundled_imports : View → ℕ → List ℕ

@@ -13,11 +13,12 @@ use Rattle.wit_script_lines.specs.declared.request.Request.{Request}
 use Rattle.wit_script_explain.specs.declared.lines.CommandPlace.{CommandPlace}
 use Rattle.wit_script_explain.specs.declared.lines.ScriptLines.{ScriptLines}
 use Rattle.witgraph_dot.specs.Effects.{request_effect}
-use Rattle.witgraph_dot.specs.Made.{CommandMakes, came_to_something, stage_after, with_working_effect}
+use Rattle.witgraph_dot.specs.Made.{CommandMakes, came_to_something, stage_after}
 use Rattle.witgraph_dot.specs.declared.effect.Effect.{Effect}
 use Rattle.witgraph_dot.specs.declared.effect.Effect.TheVariants as effect
 use Rattle.witgraph_dot.specs.declared.listing.Listing.{Listing}
 use Rattle.witgraph_dot.specs.declared.stage.Stage.{Stage}
+use Rattle.witgraph_dot.specs.steps.Parts.{with_working_effect}
 
 -- the desk stays with what is listed
 working-desk : (desk : Desk) (done : Effect) (second : Option TrackedGraph) (first other : Listing) → (with_working_effect desk done second first other).desk ≡ desk

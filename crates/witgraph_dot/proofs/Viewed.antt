@@ -11,12 +11,13 @@ use Rattle.witgraph_dot.specs.Bundles.{frames_of}
 use Rattle.witgraph_dot.specs.Choice.{choice_of}
 use Rattle.witgraph_dot.specs.Made.{ScriptMakes}
 use Rattle.witgraph_dot.specs.Picture.{DrawsScript, chosen_view, picture_text}
-use Rattle.witgraph_dot.specs.Scene.{View, view_of}
+use Rattle.witgraph_dot.specs.Scene.{View}
 use Rattle.witgraph_dot.specs.Shown.{shown_interfaces, shown_worlds}
 use Rattle.witgraph_dot.specs.declared.choice.Choice.{Choice}
 use Rattle.witgraph_dot.specs.declared.listing.Listing.{Listing}
 use Rattle.witgraph_dot.specs.declared.scene.Scene.{Scene}
 use Rattle.witgraph_dot.specs.declared.stage.Stage.{Stage}
+use Rattle.witgraph_dot.specs.steps.Parts.{view_of}
 
 abbrev view : Graph → Listing → List ℕ → List ℕ → List (List ℕ) → Bool → View
 view g listing interfaces worlds frames only_added = record {

@@ -2,10 +2,11 @@
 use Rattle.std.proofs.Common.{◌≡◌, ◌∙◌, ◌&&◌, ◌++◌, ◌-◌, ◌==◌, [], ℕ, Bool, false, List, Result, Ok, Err, Some, OnOk, ap, if◌then◌else◌, length, not, slice_get, subst, sym}
 use Rattle.std.specs.Option.{option_map_or}
 use Rattle.wit_graph_data.specs.declared.graph.Package.{Package}
-use Rattle.witgraph_dot.specs.Frames.{frame_text, shows_world, whole_frame}
-use Rattle.witgraph_dot.specs.Lines.{box_name, end_at_frame, end_in_frame, frame_end, inner_suffix, arrow_through_box}
+use Rattle.witgraph_dot.specs.Frames.{frame_text, shows_world}
+use Rattle.witgraph_dot.specs.Lines.{box_name, end_at_frame, frame_end, arrow_through_box}
 use Rattle.witgraph_dot.specs.Scene.{View}
 use Rattle.witgraph_dot.specs.declared.arrow.ArrowKind.{ArrowKind}
+use Rattle.witgraph_dot.specs.steps.Parts.{whole_frame, inner_suffix, end_in_frame}
 
 -- the frame of a package with these interfaces, where there is something in it
 abbrev frame_unless_empty : View → ℕ → Package → List ℕ → List ℕ

@@ -7,14 +7,11 @@ use Rattle.witgraph_dot.specs.declared.arrow.Arrow.{Arrow}
 use Rattle.witgraph_dot.specs.declared.arrow.ArrowKind.{ArrowKind}
 use Rattle.witgraph_dot.specs.declared.arrow.Target.TheVariants as target
 
--- the interfaces of a package that are shown, in the order of its table
-abbrev pub frame_of : List ℕ → Package → List ℕ
-frame_of shown «package» =
-    filter (is_one_of shown) (map (λ (e : List ℕ × ℕ). e.1) «package».interfaces)
-
--- the frame of each package
+-- the frame of each package: its interfaces that are shown, in the order of its table
 abbrev pub frames_of : List ℕ → List Package → List (List ℕ)
-frames_of shown packages = map (frame_of shown) packages
+frames_of shown packages =
+    map (λ (p : Package). filter (is_one_of shown) (map (λ (e : List ℕ × ℕ). e.1) p.interfaces))
+    packages
 
 -- frames without some interfaces
 abbrev pub frames_but : List ℕ → List (List ℕ) → List (List ℕ)
@@ -35,13 +32,9 @@ frame_arrows frames kind targets =
     map (λ p. record { kind = kind; target = target.Frame p })
     (indices_from (λ p. is_whole targets) 0 frames)
 
--- an arrow of a kind to each interface
-abbrev pub arrows_to_interfaces : ArrowKind → List ℕ → List Arrow
-arrows_to_interfaces kind targets =
-    map (λ i. record { kind = kind; target = target.Interface i }) targets
-
 -- the arrows of a kind to some interfaces: one to each frame that is whole, and one to each other interface
 abbrev pub bundle : List (List ℕ) → ArrowKind → List ℕ → List Arrow
 bundle frames kind targets =
     frame_arrows frames kind targets
-    ++ arrows_to_interfaces kind (without targets (whole_frames frames targets))
+    ++ map (λ i. record { kind = kind; target = target.Interface i })
+    (without targets (whole_frames frames targets))

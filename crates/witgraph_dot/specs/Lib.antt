@@ -15,3 +15,4 @@ pub mod Sets
 pub mod Shown
 pub mod Texts
 pub mod Tracks
+pub mod steps

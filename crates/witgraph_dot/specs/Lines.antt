@@ -1,15 +1,14 @@
 -- The arrows of a picture, as lines of DOT.
 use Rattle.std.specs.Prelude.{◌-◌, ℕ, List, [], ◌++◌, ◌==◌, Option, None, Some, codes, decimal, filter, filter_map, fold, if◌then◌else◌, length, nat_eq, nat_lt, slice_get}
 use Rattle.std.specs.List.{flat_map}
-use Rattle.std.specs.Option.{option_eq, option_map_or}
+use Rattle.std.specs.Option.{option_map_or}
 use Rattle.wit_data.specs.Entries.{Entry}
 use Rattle.wit_data.specs.declared.world.World.{World}
-use Rattle.wit_data.specs.declared.world.WorldKey.{WorldKey}
 use Rattle.wit_data.specs.declared.world.WorldKey.TheVariants as key
 use Rattle.wit_digraph.specs.PostOrder.{first_of_each}
 use Rattle.wit_graph_data.specs.declared.graph.Package.{Package}
 use Rattle.witgraph_dot.specs.Frames.{has_inner_frame}
-use Rattle.witgraph_dot.specs.Labels.{labelled_interface, labelled_interfaces}
+use Rattle.witgraph_dot.specs.Labels.{labelled_interface}
 use Rattle.witgraph_dot.specs.Scene.{View, uses_arrows, entry_arrows}
 use Rattle.witgraph_dot.specs.Sets.{is_one_of}
 use Rattle.witgraph_dot.specs.Texts.{quoted_text}
@@ -18,6 +17,7 @@ use Rattle.witgraph_dot.specs.declared.arrow.ArrowKind.{ArrowKind}
 use Rattle.witgraph_dot.specs.declared.arrow.ArrowKind.TheVariants as kind
 use Rattle.witgraph_dot.specs.declared.arrow.Target.{Target}
 use Rattle.witgraph_dot.specs.declared.arrow.Target.TheVariants as target
+use Rattle.wit_data.specs.declared.unresolved.AstItem.TheVariants as item
 
 -- what an arrow of a kind looks like
 abbrev pub look : ArrowKind → List ℕ
@@ -33,11 +33,6 @@ abbrev pub thing_end : List ℕ → ℕ → List ℕ → List ℕ
 thing_end letter n attributes =
     letter ++ (decimal n ++ (codes " [" ++ (attributes ++ codes "];\n")))
 
--- the rest of the name of the frame that holds the interfaces of a package: its own, or one in that
-abbrev pub inner_suffix : List ℕ → Package → ℕ → List ℕ
-inner_suffix worlds «package» interfaces =
-    if has_inner_frame worlds «package» interfaces then codes "_interfaces" else []
-
 -- the end of an arrow at the frame of package p: it leads to an interface in it, and ends at the frame
 abbrev pub frame_end : ℕ → List ℕ → List ℕ → ℕ → List ℕ
 frame_end p suffix attributes i =
@@ -46,16 +41,15 @@ frame_end p suffix attributes i =
     ++ (codes " ["
     ++ (attributes ++ (codes ", lhead=cluster_" ++ (decimal p ++ (suffix ++ codes "];\n"))))))
 
--- the interface is the last in the frame
-abbrev pub end_in_frame : View → ℕ → List ℕ → Package → List ℕ → List ℕ
-end_in_frame v p attributes «package» interfaces =
-    option_map_or (frame_end p (inner_suffix v.worlds «package» (length interfaces)) attributes)
-    (slice_get interfaces (length interfaces - 1)) []
-
+-- the end of an arrow at the frame that holds the interfaces of package p, its own or one in that: it leads to the last of them
 abbrev pub end_at_frame : View → ℕ → List ℕ → List ℕ
 end_at_frame v p attributes =
     option_map_or (λ (owner : Package).
-    option_map_or (end_in_frame v p attributes owner) (slice_get v.frames p) [])
+    option_map_or (λ interfaces.
+    let is_inner = has_inner_frame v.worlds owner (length interfaces) in
+    option_map_or (frame_end p (if is_inner then codes "_interfaces" else []) attributes)
+    (slice_get interfaces (length interfaces - 1)) [])
+    (slice_get v.frames p) [])
     (slice_get v.graph.packages p) []
 
 -- the end of an arrow
@@ -79,15 +73,11 @@ uses_lines v i =
 
 -- ---- arrows with labels
 
--- the label of a key
-abbrev pub key_label : WorldKey → Option (List ℕ)
-key_label (key.Name label) = Some label
-key_label (key.Interface i) = None
-
 -- the label of an entry that has interface i under one
 abbrev pub label_for : ℕ → Entry → Option (List ℕ)
-label_for i e =
-    if option_eq nat_eq (labelled_interface e.0 e.1) (Some i) then key_label e.0 else None
+label_for i (key.Name label, item.Interface j stability docs span external_id) =
+    if nat_eq j i then Some label else None
+label_for i _ = None
 
 -- a label below others, where there are any
 abbrev pub and_label : List ℕ → List ℕ → List ℕ
@@ -112,23 +102,16 @@ abbrev pub label_box : List ℕ → List ℕ → List ℕ
 label_box name labels =
     codes "  " ++ (name ++ (codes " [shape=plaintext, style=filled, fontsize=10, margin=\"0.04,0.02\", height=0, width=0, label=\"" ++ (labels ++ codes "\"];\n")))
 
--- an arrow of this look from world w to the box, which ends there without a head
-abbrev pub arrow_to_box : List ℕ → ℕ → List ℕ → List ℕ
-arrow_to_box name w attributes =
-    codes "  w"
-    ++ (decimal w
-    ++ (codes " -> " ++ (name ++ (codes " [" ++ (attributes ++ codes ", dir=none];\n")))))
-
--- and on to interface i
-abbrev pub arrow_from_box : List ℕ → ℕ → List ℕ → List ℕ
-arrow_from_box name i attributes =
-    codes "  "
-    ++ (name ++ (codes " -> i" ++ (decimal i ++ (codes " [" ++ (attributes ++ codes "];\n")))))
-
--- an arrow through the box with labels
+-- the box of this name with labels, an arrow of this look from world w to it, which ends there without a head, and on to
+-- interface i
 abbrev pub arrow_through_box : List ℕ → ℕ → ℕ → List ℕ → List ℕ → List ℕ
 arrow_through_box name w i labels attributes =
-    label_box name labels ++ (arrow_to_box name w attributes ++ arrow_from_box name i attributes)
+    label_box name labels
+    ++ ((codes "  w"
+    ++ (decimal w
+    ++ (codes " -> " ++ (name ++ (codes " [" ++ (attributes ++ codes ", dir=none];\n"))))))
+    ++ (codes "  "
+    ++ (name ++ (codes " -> i" ++ (decimal i ++ (codes " [" ++ (attributes ++ codes "];\n")))))))
 
 -- that from world w to interface i, with the labels under which entries have the interface
 abbrev pub labelled_lines : ArrowKind → ℕ → List Entry → ℕ → List ℕ
@@ -140,7 +123,7 @@ labelled_lines sort w entries i =
 abbrev pub labelled_entries : ArrowKind → List ℕ → ℕ → List Entry → List ℕ
 labelled_entries sort shown w entries =
     flat_map (labelled_lines sort w entries)
-    (first_of_each (filter (is_one_of shown) (labelled_interfaces entries)))
+    (first_of_each (filter (is_one_of shown) (filter_map labelled_interface entries)))
 
 -- so of world w, where all entries are shown
 abbrev pub all_labelled : View → ℕ → List ℕ

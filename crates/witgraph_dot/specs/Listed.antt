@@ -1,6 +1,6 @@
 -- What lines list for worlds: the imports, each of an interface under the interface's own id, and the worlds that worlds include.
 -- Both are lists of links, each a world and what is listed for it.
-use Rattle.std.specs.Prelude.{◌&&◌, ℕ, Bool, List, [], ◌∷◌, ◌++◌, Option, filter, filter_map, fold, nat_eq, not, if◌then◌else◌, flat_map, option_and_then, option_map, slice_get}
+use Rattle.std.specs.Prelude.{◌&&◌, ℕ, Bool, List, [], ◌∷◌, ◌++◌, Option, filter_map, fold, nat_eq, if◌then◌else◌, flat_map, option_and_then, option_map, slice_get}
 use Rattle.std.specs.List.{list_any}
 use Rattle.std.specs.Option.{option_flatten}
 use Rattle.witgraph_dot.specs.declared.listing.Listing.{Listing}
@@ -9,23 +9,15 @@ use Rattle.witgraph_dot.specs.declared.listing.Listing.{Listing}
 abbrev pub new_listing : Listing
 new_listing = record { imports = []; includes = [] }
 
--- it is a link of this world
-abbrev pub is_of : ℕ → ℕ × ℕ → Bool
-is_of world link = nat_eq link.0 world
-
 -- this is listed for a world
 abbrev pub has_link : List (ℕ × ℕ) → ℕ → ℕ → Bool
 has_link links world thing =
-    list_any (λ (link : ℕ × ℕ). is_of world link && nat_eq link.1 thing) links
+    list_any (λ (link : ℕ × ℕ). nat_eq link.0 world && nat_eq link.1 thing) links
 
 -- what is listed for a world
 abbrev pub listed_for : ℕ → List (ℕ × ℕ) → List ℕ
 listed_for world links =
-    flat_map (λ (link : ℕ × ℕ). if is_of world link then link.1 ∷ [] else []) links
-
--- what is listed for other worlds
-abbrev pub others_of : ℕ → List (ℕ × ℕ) → List (ℕ × ℕ)
-others_of world links = filter (λ (link : ℕ × ℕ). not (is_of world link)) links
+    flat_map (λ (link : ℕ × ℕ). if nat_eq link.0 world then link.1 ∷ [] else []) links
 
 -- with one thing more for a world, where it isn't there
 abbrev pub and_link : List (ℕ × ℕ) → ℕ → ℕ → List (ℕ × ℕ)

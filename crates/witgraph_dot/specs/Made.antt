@@ -17,10 +17,7 @@ use Rattle.witgraph_dot.specs.declared.effect.Effect.{Effect}
 use Rattle.witgraph_dot.specs.declared.effect.Effect.TheVariants as effect
 use Rattle.witgraph_dot.specs.declared.listing.Listing.{Listing}
 use Rattle.witgraph_dot.specs.declared.stage.Stage.{Stage}
-
--- an empty graph, for whose worlds no line lists anything
-abbrev pub new_stage : Stage
-new_stage = record { desk = new_desk; first = new_listing; second = new_listing }
+use Rattle.std.specs.Option.{option_map_or}
 
 -- by its reply a command came to something
 abbrev pub came_to_something : Option Reply → Bool
@@ -29,27 +26,25 @@ came_to_something (Some reply.NoWorld) = false
 came_to_something (Some _) = true
 came_to_something None = false
 
--- after an effect on the graph on which commands work: the second, where there is one
-abbrev pub with_working_effect : Desk → Effect → Option TrackedGraph → Listing → Listing → Stage
-with_working_effect desk done None first second =
-    record { desk = desk; first = with_effect desk.first.resolve done first; second = second }
-with_working_effect desk done (Some graph) first second =
-    record { desk = desk; first = first; second = with_effect graph.resolve done second }
-
 -- what the first graph lists after `merge`, by its reply
-abbrev pub joined : Option Reply → Listing → Listing → Listing
-joined (Some (reply.Merged remap)) first second =
+abbrev pub with_merged : Option Reply → Listing → Listing → Listing
+with_merged (Some (reply.Merged remap)) first second =
     merged_listing remap.worlds remap.interfaces second first
-joined _ first second = first
+with_merged _ first second = first
 
--- the graphs as they are after a command with this effect and reply, with what was listed before it
+-- the graphs as they are after a command with this effect and reply, with what was listed before it: other effects are on the
+-- graph on which commands work, the second, where there is one
 abbrev pub stage_after : Effect → Option Reply → Desk → Listing → Listing → Stage
 stage_after effect.Opens answer desk first second =
     record { desk = desk; first = first; second = new_listing }
 stage_after effect.Joins answer desk first second =
-    record { desk = desk; first = joined answer first second; second = new_listing }
+    record { desk = desk; first = with_merged answer first second; second = new_listing }
 stage_after done answer desk first second =
-    if came_to_something answer then with_working_effect desk done desk.second first second
+    if came_to_something answer
+    then option_map_or (λ (graph : TrackedGraph).
+    record { desk = desk; first = first; second = with_effect graph.resolve done second })
+    desk.second
+    (record { desk = desk; first = with_effect desk.first.resolve done first; second = second })
     else record { desk = desk; first = first; second = second }
 
 -- a command at its place that doesn't want memory, what is told of it, and what there is after it
@@ -62,7 +57,9 @@ CommandMakes script before placed text after =
     ≡ stage_after (request_effect (working before.desk).resolve.graph placed.1) answer after.desk
     before.first before.second)
 
--- the commands of a script, on an empty graph, and what is told of them
+-- the commands of a script, on an empty graph, for whose worlds no line lists anything, and what is told of them
 abbrev pub ScriptMakes : ScriptLines → List Request → List ℕ → Stage → Type 0
 ScriptMakes script commands text after =
-    InTurn (CommandMakes script) new_stage (with_places script script.commands commands) text after
+    InTurn (CommandMakes script)
+    (record { desk = new_desk; first = new_listing; second = new_listing })
+    (with_places script script.commands commands) text after

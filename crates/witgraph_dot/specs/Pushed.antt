@@ -38,38 +38,23 @@ abbrev pub is_world_item : ℕ → AstItem → Bool
 is_world_item w (item.Interface other) = false
 is_world_item w (item.World other) = nat_eq other w
 
--- interface i of a package, where it isn't of another one
-abbrev pub own_graph_interface : Graph → UnresolvedPackage → ℕ → Option ℕ
-own_graph_interface g p i =
-    option_and_then
-    (λ (interface : Interface). option_and_then (interface_by_name g p.name) interface.name)
-    (slice_get p.interfaces i)
-
--- world w of a package, where it isn't of another one
-abbrev pub own_graph_world : Graph → UnresolvedPackage → ℕ → Option ℕ
-own_graph_world g p w =
-    option_and_then (λ (world : World). world_named g p.name world.name) (slice_get p.worlds w)
-
--- interface i of a package, where these are what it names of others
-abbrev pub interface_among : Graph → UnresolvedPackage → ℕ → List (PackageName × ForeignItem)
-    → Option ℕ
-interface_among g p i items =
-    option_map_or (λ (named : PackageName × ForeignItem). interface_by_name g named.0 named.1.0)
-    (find (λ (named : PackageName × ForeignItem). is_interface_item i named.1.1.0) items)
-    (own_graph_interface g p i)
-
+-- interface i of a package: one that it names of another package, or its own
 abbrev pub graph_interface : Graph → UnresolvedPackage → ℕ → Option ℕ
-graph_interface g p i = interface_among g p i (foreign_items p.foreign_deps)
+graph_interface g p i =
+    option_map_or (λ (named : PackageName × ForeignItem). interface_by_name g named.0 named.1.0)
+    (find (λ (named : PackageName × ForeignItem). is_interface_item i named.1.1.0)
+    (foreign_items p.foreign_deps))
+    (option_and_then
+    (λ (interface : Interface). option_and_then (interface_by_name g p.name) interface.name)
+    (slice_get p.interfaces i))
 
 -- so world w of a package
-abbrev pub world_among : Graph → UnresolvedPackage → ℕ → List (PackageName × ForeignItem) → Option ℕ
-world_among g p w items =
-    option_map_or (λ (named : PackageName × ForeignItem). world_named g named.0 named.1.0)
-    (find (λ (named : PackageName × ForeignItem). is_world_item w named.1.1.0) items)
-    (own_graph_world g p w)
-
 abbrev pub graph_world : Graph → UnresolvedPackage → ℕ → Option ℕ
-graph_world g p w = world_among g p w (foreign_items p.foreign_deps)
+graph_world g p w =
+    option_map_or (λ (named : PackageName × ForeignItem). world_named g named.0 named.1.0)
+    (find (λ (named : PackageName × ForeignItem). is_world_item w named.1.1.0)
+    (foreign_items p.foreign_deps))
+    (option_and_then (λ (world : World). world_named g p.name world.name) (slice_get p.worlds w))
 
 -- ---- lines
 
@@ -82,19 +67,12 @@ abbrev pub line_includes : Graph → UnresolvedPackage → World → List ℕ
 line_includes g p world =
     filter_map (λ (include : WorldInclude). graph_world g p include.id) world.includes
 
--- these as links of world w of a graph
-abbrev pub links_for : List ℕ → ℕ → List (ℕ × ℕ)
-links_for things w = map (λ thing. (w, thing)) things
-
--- these as links of a world, where the graph has it
-abbrev pub world_links : List ℕ → Option ℕ → List (ℕ × ℕ)
-world_links things found = option_map_or (links_for things) found []
-
--- what lines list for the worlds of a package, by what they list for one
+-- what lines list for the worlds of a package that the graph has, by what they list for one
 abbrev pub links_in_package : (Graph → UnresolvedPackage → World → List ℕ) → Graph
     → UnresolvedPackage → List (ℕ × ℕ)
 links_in_package lines g p =
-    flat_map (λ (at : ℕ × World). world_links (lines g p at.1) (graph_world g p at.0))
+    flat_map (λ (at : ℕ × World).
+    option_map_or (λ w. map (λ thing. (w, thing)) (lines g p at.1)) (graph_world g p at.0) [])
     (enumerate_from 0 p.worlds)
 
 -- so for those of all packages of groups
@@ -106,14 +84,13 @@ group_links lines g groups =
 
 -- ---- what is listed
 
--- what is listed for an included world is listed for the world that includes it
-abbrev pub with_brought : List (ℕ × ℕ) → ℕ × ℕ → List (ℕ × ℕ)
-with_brought links include = and_links links include.0 (listed_for include.1 links)
-
--- so by each of some includes in turn, so many times over
+-- what is listed for an included world is listed for the world that includes it, by each of some includes in turn, so many
+-- times over
 abbrev pub repeated : List (ℕ × ℕ) → ℕ → List (ℕ × ℕ) → List (ℕ × ℕ)
 repeated includes zero links = links
-repeated includes (suc times) links = repeated includes times (fold with_brought links includes)
+repeated includes (suc times) links =
+    repeated includes times (fold (λ so_far (include : ℕ × ℕ).
+    and_links so_far include.0 (listed_for include.1 so_far)) links includes)
 
 -- what is listed after a push of groups: also what their lines list, and along chains of includes, which have no more links than
 -- there are lines

@@ -5,14 +5,13 @@ use Rattle.wit_data.specs.declared.world.World.{World}
 use Rattle.wit_digraph.specs.PostOrder.{first_of_each}
 use Rattle.wit_graph_data.specs.Queries.{interface_direct_deps}
 use Rattle.wit_graph_data.specs.declared.graph.Graph.{Graph}
-use Rattle.witgraph_dot.specs.Bundles.{bundle, frame_arrows, frames_but, whole_frames}
+use Rattle.witgraph_dot.specs.Bundles.{bundle, frame_arrows, whole_frames, frames_but}
 use Rattle.witgraph_dot.specs.Entries.{own_exports, own_imports}
 use Rattle.witgraph_dot.specs.Listed.{listed_for, has_link}
 use Rattle.witgraph_dot.specs.Sets.{are_among, is_one_of, intersection, without}
 use Rattle.witgraph_dot.specs.declared.arrow.Arrow.{Arrow}
 use Rattle.witgraph_dot.specs.declared.arrow.ArrowKind.TheVariants as kind
 use Rattle.witgraph_dot.specs.declared.arrow.Target.TheVariants as target
-use Rattle.witgraph_dot.specs.declared.scene.Scene.{Scene}
 
 -- a graph, what lines list and include, and what is shown: interfaces, worlds, the interfaces of each package
 pub record View : Type 0 where
@@ -23,17 +22,6 @@ pub record View : Type 0 where
   pub worlds : List ℕ
   pub frames : List (List ℕ)
   pub only_added : Bool
-
-abbrev pub view_of : Scene → View
-view_of scene = record {
-  graph = scene.resolve.now.graph;
-  imports = scene.listing.now.imports;
-  includes = scene.listing.now.includes;
-  interfaces = scene.interfaces.items;
-  worlds = scene.worlds.items;
-  frames = scene.frames;
-  only_added = scene.only_added;
-}
 
 -- ---- from interfaces
 
@@ -69,10 +57,6 @@ outermost included worlds = filter (λ w. not (is_included_by_any included world
 abbrev pub included_worlds : View → ℕ → List ℕ
 included_worlds v w = outermost v.includes (filter (is_included v w) (listed_for w v.includes))
 
--- an arrow to each of some worlds
-abbrev pub included_arrows : List ℕ → List Arrow
-included_arrows worlds = map (λ w. record { kind = kind.Listed; target = target.World w }) worlds
-
 -- ---- from worlds to interfaces and frames
 
 -- what world w imports under the ids of interfaces that are shown
@@ -83,30 +67,19 @@ shown_imports v w = intersection (own_imports (slice_get v.graph.worlds w)) v.in
 abbrev pub import_frames : View → ℕ → List (List ℕ)
 import_frames v w = frames_but (own_exports (slice_get v.graph.worlds w)) v.frames
 
--- of what world w imports, that to which no arrow to an included world leads
-abbrev pub left_imports : View → ℕ → List ℕ
-left_imports v w =
-    without (shown_imports v w) (included_imports v.graph.worlds (included_worlds v w))
-
--- of that what some included world imports, shown or not
-abbrev pub brought_imports : View → ℕ → List ℕ
-brought_imports v w =
-    intersection (left_imports v w) (included_imports v.graph.worlds (listed_for w v.includes))
-
--- of what is left that which stands in no whole frame of what included worlds import
-abbrev pub single_imports : View → ℕ → List ℕ
-single_imports v w =
-    without (left_imports v w) (whole_frames (import_frames v w) (brought_imports v w))
-
--- the arrows to what world w imports: to included worlds, to whole frames that included worlds import, and then to what lines
--- list and to what elaboration added
+-- the arrows to what world w imports: to included worlds; of what these leave, to whole frames of what included worlds import,
+-- shown or not; and of what these leave, to what lines list and to what elaboration added
 abbrev pub import_arrows : View → ℕ → List Arrow
 import_arrows v w =
     let frames = import_frames v w in
-    let single = single_imports v w in
+    let included = included_worlds v w in
+    let left = without (shown_imports v w) (included_imports v.graph.worlds included) in
+    let brought =
+    intersection left (included_imports v.graph.worlds (listed_for w v.includes)) in
+    let single = without left (whole_frames frames brought) in
     let listed = listed_for w v.imports in
-    included_arrows (included_worlds v w)
-    ++ (frame_arrows frames kind.Listed (brought_imports v w)
+    map (λ u. record { kind = kind.Listed; target = target.World u }) included
+    ++ (frame_arrows frames kind.Listed brought
     ++ (bundle frames kind.Listed (intersection single listed)
     ++ bundle frames kind.Added (without single listed)))
 

@@ -7,21 +7,18 @@ use Rattle.wit_data.specs.declared.interface.Interface.{Interface}
 use Rattle.wit_data.specs.declared.world.World.{World}
 use Rattle.wit_graph_data.specs.declared.graph.Graph.{Graph}
 use Rattle.wit_graph_data.specs.declared.graph.Package.{Package}
-use Rattle.witgraph_dot.specs.Choice.{is_picked}
 use Rattle.witgraph_dot.specs.declared.choice.Choice.{Choice}
 use Rattle.witgraph_dot.specs.declared.choice.Pick.{Pick}
+use Rattle.witgraph_dot.specs.Choice.{picks}
 
 -- ---- which picks are of a thing
 
--- one of some picks is of what has this name in package p
-abbrev pub has_pick : List Package → List Pick → ℕ → List ℕ → Bool
-has_pick packages picked p name =
-    option_map_or (λ (owner : Package). is_picked picked owner.name name) (slice_get packages p)
-    false
-
--- the same of what may lack a package and a name
+-- one of some picks is of what has this name in this package; of what lacks either none is
 abbrev pub has_pick_at : List Package → List Pick → Option ℕ → Option (List ℕ) → Bool
-has_pick_at packages picked (Some p) (Some name) = has_pick packages picked p name
+has_pick_at packages picked (Some p) (Some name) =
+    option_map_or (λ (owner : Package).
+    list_any (λ (pick : Pick). picks pick owner.name name) picked)
+    (slice_get packages p) false
 has_pick_at packages picked (Some p) None = false
 has_pick_at packages picked None name = false
 

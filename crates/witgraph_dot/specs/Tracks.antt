@@ -19,10 +19,10 @@ full_name g i =
     interface.name) interface.«package») (slice_get g.interfaces i)
 
 -- both versions are there and stand on one track
-abbrev pub have_one_track : TrackRule → Option Parts → Option Parts → Bool
-have_one_track rule (Some v) (Some w) = version_eq (track_by rule v) (track_by rule w)
-have_one_track rule (Some v) None = false
-have_one_track rule None w = false
+abbrev pub stand_on_one_track : TrackRule → Option Parts → Option Parts → Bool
+stand_on_one_track rule (Some v) (Some w) = version_eq (track_by rule v) (track_by rule w)
+stand_on_one_track rule (Some v) None = false
+stand_on_one_track rule None w = false
 
 -- two packages have one namespace and one name
 abbrev pub are_of_one_base : PackageName → PackageName → Bool
@@ -32,7 +32,7 @@ are_of_one_base p q = bytes_eq p.namespace q.namespace && bytes_eq p.name q.name
 abbrev pub are_versions_by_name : TrackRule → Option (PackageName × List ℕ)
     → Option (PackageName × List ℕ) → Bool
 are_versions_by_name rule (Some a) (Some b) =
-    (bytes_eq a.1 b.1 && are_of_one_base a.0 b.0) && have_one_track rule a.0.version b.0.version
+    (bytes_eq a.1 b.1 && are_of_one_base a.0 b.0) && stand_on_one_track rule a.0.version b.0.version
 are_versions_by_name rule (Some a) None = false
 are_versions_by_name rule None b = false
 

@@ -1,6 +1,7 @@
 //! Arrows that lead to the same frame as one.
 ghost use Rattle.std.specs.Prelude.{◌≡◌, ◌++◌, IfOk, OnOk};
-ghost use Rattle.witgraph_dot.specs.Bundles.{bundle, frame_arrows, frame_of, frames_but, frames_of, arrows_to_interfaces, is_whole, whole_frames};
+ghost use Rattle.witgraph_dot.specs.Bundles.{bundle, frame_arrows, frames_of, is_whole, whole_frames, frames_but};
+ghost use Rattle.witgraph_dot.specs.steps.Parts.{frame_of, arrows_to_interfaces};
 
 use crate::arrow::{Arrow, ArrowKind, Target};
 use crate::sets::{are_among, is_one_of, without};

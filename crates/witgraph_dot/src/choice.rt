@@ -1,7 +1,8 @@
 //! What the comment lines of a script choose for its picture.
 ghost use Rattle.std.specs.Prelude.{◌≡◌, IfOk, OnOk};
 ghost use Rattle.wit_script_lines.specs.Line.{lines_of};
-ghost use Rattle.witgraph_dot.specs.Choice.{all_things, and_pick, choice_of, is_picked, matches_version, pick_of, picks, picks_name, picks_package, and_line};
+ghost use Rattle.witgraph_dot.specs.Choice.{choice_of, pick_of, picks, and_line};
+ghost use Rattle.witgraph_dot.specs.steps.Parts.{matches_version, picks_name, picks_package, is_picked, and_pick, all_things};
 
 use std::alloc::{AllocError, Global};
 use wit_resolve_graph::{Items, PackageName, Text, Version};

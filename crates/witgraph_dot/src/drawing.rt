@@ -1,12 +1,12 @@
 //! The arrows of a picture as they are written.
 ghost use Rattle.std.specs.Prelude.{◌≡◌, ◌++◌, IfOk, OnOk, Some, filter_map, option_copied, string_bytes};
 ghost use Rattle.std.specs.List.{flat_map};
-ghost use Rattle.witgraph_dot.specs.Lines.{all_labelled, and_label, arrow_end, arrow_line, arrow_lines, box_name, end_at_frame, inner_suffix, label_for, label_lines, labelled_entries, labelled_lines, look, uses_lines, world_lines};
-ghost use Rattle.witgraph_dot.specs.Scene.{view_of};
+ghost use Rattle.witgraph_dot.specs.Lines.{all_labelled, arrow_end, arrow_line, arrow_lines, box_name, end_at_frame, label_for, label_lines, labelled_entries, labelled_lines, look, uses_lines, world_lines, and_label};
+ghost use Rattle.witgraph_dot.specs.steps.Parts.{inner_suffix, view_of};
 
 use crate::arrow::{Arrow, ArrowKind, Target};
 use crate::frame::has_inner_frame;
-use crate::labels::{labelled_interface, labelled_interfaces};
+use crate::labels::labelled_interfaces;
 use crate::scene::Scene;
 use crate::texts::Quoted;
 use std::alloc::{AllocError, Global};
@@ -280,12 +280,11 @@ fn labels_of(
 fn label_for<'a>(id: InterfaceId, key: &'a WorldKey, item: &WorldItem) -> Option<&'a Text>
     ensures { option_copied result ≡ label_for id (key.now, item.now) }
 {
-    if labelled_interface(key, item) != Some(id) {
-        return None;
-    }
-    match key {
-        WorldKey::Name(label) => Some(label),
-        WorldKey::Interface(_) => None,
+    match (key, item) {
+        (WorldKey::Name(label), WorldItem::Interface { id: other, .. }) => {
+            if *other == id { Some(label) } else { None }
+        }
+        _ => None,
     }
 }
 

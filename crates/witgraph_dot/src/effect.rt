@@ -2,7 +2,8 @@
 ghost use Rattle.std.specs.Prelude.{◌≡◌, ◌∷◌, IfOk, OnOk};
 ghost use Rattle.wit_graph_data.specs.Named.{world_named};
 ghost use Rattle.wit_script_explain.specs.Desk.{working};
-ghost use Rattle.witgraph_dot.specs.Effects.{change_effect, exportized_imports, exports_of, importize_effect, importized_imports, request_effect, semver_merged_imports, with_effect, with_versions};
+ghost use Rattle.witgraph_dot.specs.Effects.{request_effect, with_effect, with_versions, importized_imports};
+ghost use Rattle.witgraph_dot.specs.steps.Parts.{exports_of, importize_effect, change_effect, exportized_imports, semver_merged_imports};
 
 use crate::entries::{own_exports, own_imports};
 use crate::listing::Listing;

@@ -1,9 +1,9 @@
 //! The frames of packages.
 ghost use Rattle.std.specs.Prelude.{◌≡◌, ◌++◌, OnOk, string_bytes};
 ghost use Rattle.std.specs.List.{flat_map};
-ghost use Rattle.witgraph_dot.specs.Scene.{view_of};
-ghost use Rattle.witgraph_dot.specs.Frames.{frame_head, frame_text, has_inner_frame, inner_frame, shown_boxes, shown_world, shows_world, whole_frame, world_boxes};
-ghost use Rattle.witgraph_dot.specs.Boxes.{box_line, interface_box, interface_boxes, line_of_entry, name_box, world_box, world_head};
+ghost use Rattle.witgraph_dot.specs.Frames.{frame_head, frame_text, has_inner_frame, shown_boxes, shows_world, world_boxes};
+ghost use Rattle.witgraph_dot.specs.Boxes.{box_line, interface_boxes, world_box, name_box};
+ghost use Rattle.witgraph_dot.specs.steps.Parts.{interface_box, world_head, inner_frame, shown_world, whole_frame, view_of};
 
 use crate::scene::Scene;
 use crate::sets::{is_one_of, is_world_among};
@@ -232,7 +232,7 @@ fn write_label(
     text: &mut String,
 ) -> Result<(), AllocError>
     ensures { OnOk result (string_bytes text.new
-        ≡ string_bytes text.old ++ line_of_entry word.now key.now item.now) }
+        ≡ string_bytes text.old ++ box_line word.now (key.now, item.now)) }
 {
     let WorldKey::Name(label) = key else {
         return Ok(());

@@ -2,15 +2,16 @@
 ghost use Rattle.std.specs.Prelude.{◌≡◌, IfOk, filter};
 ghost use Rattle.wit_digraph.specs.PostOrder.{first_of_each};
 ghost use Rattle.witgraph_dot.specs.Sets.{is_one_of};
-ghost use Rattle.witgraph_dot.specs.Labels.{labelled_interface, labelled_interfaces};
+ghost use Rattle.witgraph_dot.specs.Labels.{labelled_interface};
+ghost use Rattle.witgraph_dot.specs.steps.Parts.{labelled_interfaces};
 
 use crate::sets::is_one_of;
 use std::alloc::{AllocError, Global};
 use wit_resolve_graph::{InterfaceId, Table, WorldItem, WorldKey};
 
 /// The interface of an entry under a label.
-pub fn labelled_interface(key: &WorldKey, item: &WorldItem) -> Option<InterfaceId>
-    ensures { result ≡ labelled_interface key.now item.now }
+fn labelled_interface(key: &WorldKey, item: &WorldItem) -> Option<InterfaceId>
+    ensures { result ≡ labelled_interface (key.now, item.now) }
 {
     match (key, item) {
         (WorldKey::Name(_), WorldItem::Interface { id, .. }) => Some(*id),

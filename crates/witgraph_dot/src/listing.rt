@@ -1,6 +1,7 @@
 //! The imports that lines list, and the worlds that they include.
 ghost use Rattle.std.specs.Prelude.{◌≡◌, IfOk, OnOk, filter_map, length};
-ghost use Rattle.witgraph_dot.specs.Listed.{and_link, and_links, has_link, listed_for, merged_listing, moved_link, new_listing, others_of};
+ghost use Rattle.witgraph_dot.specs.Listed.{and_link, and_links, has_link, listed_for, merged_listing, moved_link, new_listing};
+ghost use Rattle.witgraph_dot.specs.steps.Parts.{others_of};
 
 use std::alloc::{AllocError, Global};
 use wit_resolve_graph::{InterfaceId, Items, Remap, WorldId};

@@ -1,7 +1,8 @@
 //! What the lines of packages list.
 ghost use Rattle.std.specs.Prelude.{◌≡◌, ◌++◌, OnOk, flat_map, fold};
 ghost use Rattle.witgraph_dot.specs.Listed.{and_links, with_links};
-ghost use Rattle.witgraph_dot.specs.Pushed.{graph_world, line_imports, line_includes, links_for, links_in_package, pushed, with_brought, world_links};
+ghost use Rattle.witgraph_dot.specs.Pushed.{graph_world, line_imports, line_includes, links_in_package, pushed};
+ghost use Rattle.witgraph_dot.specs.steps.Parts.{links_for, world_links, with_brought};
 
 use crate::listing::{Include, Listing};
 use crate::names::{graph_interface, graph_world};

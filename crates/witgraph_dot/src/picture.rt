@@ -2,7 +2,7 @@
 ghost use Rattle.std.specs.Prelude.{◌≡◌, ◌++◌, IfOk, OnOk, string_bytes};
 ghost use Rattle.witgraph_dot.specs.Frames.{frame_texts};
 ghost use Rattle.witgraph_dot.specs.Picture.{chosen_view, note_line, picture_text};
-ghost use Rattle.witgraph_dot.specs.Scene.{view_of};
+ghost use Rattle.witgraph_dot.specs.steps.Parts.{view_of};
 
 use crate::choice::Choice;
 use crate::drawing::write_arrows;

@@ -4,8 +4,9 @@ ghost use Rattle.wit_graph_data.specs.Queries.{interface_direct_deps};
 ghost use Rattle.witgraph_dot.specs.Bundles.{frames_of};
 ghost use Rattle.witgraph_dot.specs.Listed.{listed_for};
 ghost use Rattle.witgraph_dot.specs.Sets.{intersection, without};
-ghost use Rattle.witgraph_dot.specs.Scene.{added_arrows, brought_imports, export_arrows, import_arrows, import_frames, included_arrows, included_imports, included_worlds, is_included, is_included_by_any, left_imports, outermost, shown_imports, uses_arrows, view_of, entry_arrows};
+ghost use Rattle.witgraph_dot.specs.Scene.{added_arrows, export_arrows, import_arrows, import_frames, included_imports, included_worlds, is_included, shown_imports, uses_arrows, entry_arrows, is_included_by_any, outermost};
 ghost use Rattle.witgraph_dot.specs.Shown.{shown_interfaces, shown_worlds};
+ghost use Rattle.witgraph_dot.specs.steps.Parts.{included_arrows, left_imports, brought_imports, view_of};
 
 use crate::arrow::{Arrow, ArrowKind, Target};
 use crate::bundles::{add_bundle, add_frames, frames_but, frames_of, whole_frames};

@@ -1,7 +1,8 @@
 //! The interfaces and worlds of a graph that a picture shows.
 ghost use Rattle.std.specs.Prelude.{◌≡◌, ◌<◌, IfOk, length, slice_get};
 ghost use Rattle.std.specs.Option.{option_map_or};
-ghost use Rattle.witgraph_dot.specs.Shown.{entries_of_picked, has_pick, interface_has_pick, is_interface_shown, is_world_shown, shown_interfaces, shown_worlds, world_has_pick};
+ghost use Rattle.witgraph_dot.specs.Shown.{entries_of_picked, interface_has_pick, is_interface_shown, shown_interfaces, shown_worlds, world_has_pick, is_world_shown};
+ghost use Rattle.witgraph_dot.specs.steps.Parts.{has_pick};
 
 use crate::choice::{Choice, Pick, is_picked};
 use crate::entries::add_interfaces;

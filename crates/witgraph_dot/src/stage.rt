@@ -2,9 +2,9 @@
 ghost use Rattle.std.specs.Prelude.{◌≡◌, Some, IfOk, OnOk, false, is_some, string_bytes};
 ghost use Rattle.wit_graph_data.specs.declared.error_kind.ResolveErrorKind.TheVariants.{OutOfMemory};
 ghost use Rattle.wit_resolve_graph.specs.declared.command.Reply.TheVariants.{Refused};
-ghost use Rattle.wit_script.specs.Ready.{CanAllBeAsked};
-ghost use Rattle.wit_script.specs.steps.Ready.{CanBeAsked};
-ghost use Rattle.witgraph_dot.specs.Made.{CommandMakes, ScriptMakes, came_to_something, joined, new_stage, stage_after, with_working_effect};
+ghost use Rattle.wit_script.specs.steps.Ready.{CanBeAsked, CanAllBeAsked};
+ghost use Rattle.witgraph_dot.specs.Made.{CommandMakes, ScriptMakes, came_to_something, with_merged, stage_after};
+ghost use Rattle.witgraph_dot.specs.steps.Parts.{new_stage, with_working_effect};
 
 use crate::effect::Effect;
 use crate::listing::Listing;
@@ -130,7 +130,7 @@ impl Stage {
 
 /// Lists for the first graph what the second lists, by the reply to the merge.
 fn join(first: &mut Listing, second: &Listing, reply: &Option<Reply>) -> Result<(), AllocError>
-    ensures { OnOk result (first.new ≡ joined reply.now first.old second.now) }
+    ensures { OnOk result (first.new ≡ with_merged reply.now first.old second.now) }
 {
     match reply {
         Some(Reply::Merged(remap)) => first.merge(second, remap),

@@ -1,7 +1,7 @@
 //! Interfaces at several versions.
 ghost use Rattle.std.specs.Prelude.{◌≡◌, IfOk};
 ghost use Rattle.std.specs.List.{list_any};
-ghost use Rattle.witgraph_dot.specs.Tracks.{are_of_one_base, have_one_track, are_versions_of_one, are_versions_by_name, is_version_of_any};
+ghost use Rattle.witgraph_dot.specs.Tracks.{are_of_one_base, stand_on_one_track, are_versions_by_name, is_version_of_any, are_versions_of_one};
 
 use crate::names::full_name;
 use std::alloc::{AllocError, Global};
@@ -14,7 +14,7 @@ fn have_one_track(
     one: &Option<Version>,
     other: &Option<Version>,
 ) -> Result<bool, AllocError>
-    ensures { IfOk result (λ are. are ≡ have_one_track rule one.now other.now) }
+    ensures { IfOk result (λ are. are ≡ stand_on_one_track rule one.now other.now) }
 {
     match (one, other) {
         (Some(one), Some(other)) => {

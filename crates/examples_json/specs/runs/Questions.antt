@@ -20,8 +20,9 @@ use Rattle.wit_json_commands.specs.declared.commands.questions.FunctionSite.{Fun
 use Rattle.wit_json_commands.specs.declared.commands.questions.FunctionSite.TheVariants as site
 use Rattle.wit_json_commands.specs.declared.commands.questions.Mangling.TheVariants as asked
 use Rattle.wit_json_commands.specs.CoreNames.{core_exports, core_imports, mangling_and_abi}
+use Rattle.wit_json_commands.specs.declared.commands.questions.Question.{Question}
 use Rattle.wit_json_commands.specs.declared.commands.questions.Question.TheVariants as question
-use Rattle.wit_json_commands.specs.Tells.{AnswersQuestion, canonical_id, core_names, futures_and_streams_answer, interface_dependencies, package_dependencies_answer, package_order, packages_named}
+use Rattle.wit_json_commands.specs.Tells.{AnswersQuestion, TellsAnswer, packages_named}
 use Rattle.wit_json_commands.specs.Refusals.{refused, rendered}
 use Rattle.wit_json_commands.specs.declared.replies.answers.Answer.{Answer}
 use Rattle.wit_json_commands.specs.declared.replies.answers.Answer.TheVariants as answer
@@ -97,6 +98,13 @@ asked_graph = record {
 abbrev pub placed : FunctionSite → PackageName → List ℕ → List ℕ → FunctionPlace
 placed site home name f = record { site = site; «package» = home; name = name; function = f }
 
+abbrev pub no_files : Sources
+no_files = record { files = []; end = 0 }
+
+-- this is what is asked of the graph
+abbrev pub Tells : Question → Answer → Type 0
+Tells it told = TellsAnswer asked_graph no_files it told
+
 pub record ExamplesOfQuestions : Type 0 where
   -- packages by their names, all or none
   pub both : packages_named asked_graph (foo_x ∷ foo_bar ∷ []) ≡ Some (1 ∷ 0 ∷ [])
@@ -104,34 +112,37 @@ pub record ExamplesOfQuestions : Type 0 where
   pub not_all : packages_named asked_graph (foo_x ∷ not_there ∷ []) ≡ None
   pub no_name : packages_named asked_graph [] ≡ Some []
   -- direct dependencies
-  pub of_interface : interface_dependencies asked_graph foo_bar (codes "b")
-      ≡ answer.Interfaces (1 ∷ [])
-  pub of_none : interface_dependencies asked_graph foo_x (codes "a") ≡ answer.Interfaces []
-  pub no_interface : interface_dependencies asked_graph foo_bar (codes "a") ≡ answer.NotFound
-  pub no_home : interface_dependencies asked_graph not_there (codes "a") ≡ answer.NotFound
-  pub of_package : package_dependencies_answer asked_graph foo_x ≡ answer.Packages []
-  pub no_package : package_dependencies_answer asked_graph not_there ≡ answer.NotFound
+  pub of_interface : Tells (question.InterfaceDependencies foo_bar (codes "b"))
+      (answer.Interfaces (1 ∷ []))
+  pub of_none : Tells (question.InterfaceDependencies foo_x (codes "a")) (answer.Interfaces [])
+  pub no_interface : Tells (question.InterfaceDependencies foo_bar (codes "a")) answer.NotFound
+  pub no_home : Tells (question.InterfaceDependencies not_there (codes "a")) answer.NotFound
+  pub of_package : Tells (question.PackageDependencies foo_x) (answer.Packages [])
+  pub no_package : Tells (question.PackageDependencies not_there) answer.NotFound
   -- foo:bar comes after foo:x, on which it depends
-  pub order : package_order asked_graph ≡ answer.Packages (1 ∷ 0 ∷ [])
-  pub not_by_id : package_order asked_graph ≢ answer.Packages (0 ∷ 1 ∷ [])
+  pub order : Tells question.PackageOrder (answer.Packages (1 ∷ 0 ∷ []))
+  pub not_by_id : Tells question.PackageOrder (answer.Packages (0 ∷ 1 ∷ [])) → ⊥
   -- the track stands in the place of the version
-  pub canonical : canonical_id asked_graph foo_x (codes "a") ≡ answer.Text (codes "foo:x/a@0.2")
-  pub not_whole : canonical_id asked_graph foo_x (codes "a") ≢ answer.Text (codes "foo:x/a@0.2.1")
-  pub nowhere : canonical_id asked_graph not_there (codes "a") ≡ answer.NotFound
+  pub canonical : Tells (question.CanonicalId foo_x (codes "a")) (answer.Text (codes "foo:x/a@0.2"))
+  pub not_whole : Tells (question.CanonicalId foo_x (codes "a"))
+      (answer.Text (codes "foo:x/a@0.2.1")) → ⊥
+  pub nowhere : Tells (question.CanonicalId not_there (codes "a")) answer.NotFound
   -- the futures of a function, where it stands
-  pub future : futures_and_streams_answer asked_graph
-      (placed site.Interface foo_bar (codes "b") (codes "g")) ≡ answer.Types (2 ∷ [])
-  pub no_future : futures_and_streams_answer asked_graph
-      (placed site.Interface foo_x (codes "a") (codes "f")) ≡ answer.Types []
-  pub of_export : futures_and_streams_answer asked_graph
-      (placed site.Export foo_bar (codes "w") (codes "run")) ≡ answer.Types []
-  pub not_imported : futures_and_streams_answer asked_graph
-      (placed site.Import foo_bar (codes "w") (codes "run")) ≡ answer.NotFound
-  pub not_of_interface : futures_and_streams_answer asked_graph
-      (placed site.Interface foo_bar (codes "w") (codes "run")) ≡ answer.NotFound
-
-abbrev pub no_files : Sources
-no_files = record { files = []; end = 0 }
+  pub future : Tells
+      (question.FuturesAndStreams (placed site.Interface foo_bar (codes "b") (codes "g")))
+      (answer.Types (2 ∷ []))
+  pub no_future : Tells
+      (question.FuturesAndStreams (placed site.Interface foo_x (codes "a") (codes "f")))
+      (answer.Types [])
+  pub of_export : Tells
+      (question.FuturesAndStreams (placed site.Export foo_bar (codes "w") (codes "run")))
+      (answer.Types [])
+  pub not_imported : Tells
+      (question.FuturesAndStreams (placed site.Import foo_bar (codes "w") (codes "run")))
+      answer.NotFound
+  pub not_of_interface : Tells
+      (question.FuturesAndStreams (placed site.Interface foo_bar (codes "w") (codes "run")))
+      answer.NotFound
 
 -- the refusal of memory for what was asked, in this word
 abbrev pub refused_28 : List ℕ → Answer
@@ -171,4 +182,4 @@ pub record ExamplesOfCoreNames : Type 0 where
   pub not_stackful : core_exports asked_graph (mangling_and_abi asked.LegacyAsyncStackful)
       w_of_bar.exports ≢ exported (codes "[async-lift]run") ∷ []
   -- of a world that isn't there
-  pub no_world : core_names asked_graph foo_x (codes "w") asked.LegacySync ≡ answer.NotFound
+  pub no_world : Tells (question.CoreNames foo_x (codes "w") asked.LegacySync) answer.NotFound

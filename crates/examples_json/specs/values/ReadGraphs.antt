@@ -1,5 +1,7 @@
 -- What graphs are read from with what stands beside them, each as its text.
 use Rattle.std.specs.Prelude.{◌≡◌, ℕ, List, [], ◌∷◌, ◌++◌, Some, None, Ok, codes, false, true}
+use Rattle.wit_graph_data.specs.declared.features.Features.{Features}
+use Rattle.wit_data.specs.declared.world.WorldItem.{WorldItem}
 use Rattle.wit_data.specs.New.{new_function, new_interface, new_type, new_world}
 use Rattle.wit_data.specs.declared.function.Function.{Function}
 use Rattle.wit_data.specs.declared.function.FunctionKind.TheVariants as function
@@ -9,23 +11,20 @@ use Rattle.wit_data.specs.declared.types.TypeDefKind.{TypeDefKind}
 use Rattle.wit_data.specs.declared.types.TypeDefKind.TheVariants as kind
 use Rattle.wit_data.specs.declared.types.TypeOwner.TheVariants as owner
 use Rattle.wit_data.specs.declared.types.Type_.TheVariants as type
-use Rattle.wit_data.specs.declared.world.WorldItem.{WorldItem}
 use Rattle.wit_data.specs.declared.world.WorldItem.TheVariants as item
 use Rattle.wit_data.specs.declared.stability.Stability.TheVariants.{Unknown}
 use Rattle.wit_names.specs.declared.track.TrackRule.TheVariants.{Published, WithPrereleases}
-use Rattle.wit_graph_data.specs.declared.features.Features.{Features}
 use Rattle.wit_graph_data.specs.declared.graph.Graph.{Graph}
 use Rattle.examples_json.specs.values.Details.{all_features, two_features, two_files}
 use Rattle.examples_json.specs.values.Gates.{docs_of}
 use Rattle.examples_json.specs.values.Graphs.{no_graph, small_graph}
 use Rattle.examples_json.specs.values.ReadValues.{fault_at, to}
-use Rattle.wit_json_graphs.specs.Details.{entry_with, function_with_details, interface_with, item_with, kind_with, type_with_details}
-use Rattle.wit_json_graphs.specs.Resolves.{no_features, read_resolve}
+use Rattle.wit_json_graphs.specs.Details.{function_with_details, interface_with, item_with, kind_with, type_with_details, entry_with}
+use Rattle.wit_json_graphs.specs.Resolves.{read_resolve}
 use Rattle.wit_json_graphs.specs.declared.resolves.ResolveParts.{ResolveParts}
 use Rattle.wit_json_reading.specs.Documents.{read_from}
 use Rattle.wit_json_reading.specs.Features.{read_features, read_rule}
 use Rattle.wit_json_reading.specs.Graphs.{read_graph}
-use Rattle.wit_json_reading.specs.Groups.{no_sources}
 use Rattle.wit_json_reading.specs.Reading.{Reading, instead_of}
 use Rattle.wit_json_reading.specs.declared.fault.Expected.TheVariants as expected
 use Rattle.wit_json_reading.specs.declared.fault.Step.TheVariants as step
@@ -130,8 +129,8 @@ pub record ExamplesOfReadResolves : Type 0 where
       (codes "{\"graph\":{\"worlds\":[],\"interfaces\":[],\"types\":[],\"packages\":[]}}")
       ≡ Ok (record {
         graph = no_graph;
-        features = no_features;
-        source_map = no_sources;
+        features = record { names = []; all = false };
+        source_map = record { files = []; end = 0 };
         track_rule = Published;
       })
   -- with all that comes out

@@ -1,5 +1,6 @@
 -- Interfaces, entries of worlds, and worlds.
 use Rattle.std.specs.Prelude.{◌≡◌, ◌≢◌, ℕ, List, [], ◌∷◌, ◌++◌, Some, None, codes}
+use Rattle.wit_json.specs.Values.{object_by}
 use Rattle.wit_data.specs.New.{new_function, new_interface, new_world}
 use Rattle.wit_data.specs.declared.function.FunctionKind.TheVariants as function
 use Rattle.wit_data.specs.declared.interface.Interface.{Interface}
@@ -9,7 +10,7 @@ use Rattle.wit_data.specs.declared.world.WorldItem.TheVariants as item
 use Rattle.wit_data.specs.declared.world.WorldKey.{WorldKey}
 use Rattle.wit_data.specs.declared.world.WorldKey.TheVariants as key
 use Rattle.wit_json.specs.Graph.{compact}
-use Rattle.wit_json.specs.Worlds.{json_of_entries, json_of_interface, json_of_world}
+use Rattle.wit_json.specs.Worlds.{json_of_interface, json_of_world, entry_name, json_of_item}
 use Rattle.examples_json.specs.values.Gates.{docs_of, release}
 
 -- interface i of package 0 with type t, which is type 7
@@ -46,7 +47,7 @@ pub record ExamplesOfInterfaces : Type 0 where
 
 -- what one entry makes of a table
 abbrev pub entry_text : WorldKey → WorldItem → List ℕ
-entry_text k i = compact (json_of_entries ((k, i) ∷ []))
+entry_text k i = compact (object_by entry_name json_of_item ((k, i) ∷ []))
 
 -- interface i of a world, of which nothing else is said
 abbrev pub an_entry : ℕ → WorldItem

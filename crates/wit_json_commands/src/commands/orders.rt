@@ -1,7 +1,8 @@
 //! What a document asks, in order.
 ghost use Rattle.std.specs.Prelude.{◌≡◌};
+ghost use Rattle.json.specs.Json as json;
 ghost use Rattle.json.specs.Value.{value_view};
-ghost use Rattle.wit_json_commands.specs.Orders.{read_document, read_strict_document, is_change, read_order_by, read_order, read_plain_request, read_request_by, read_request};
+ghost use Rattle.wit_json_commands.specs.Orders.{read_document, read_strict_document, is_change, read_order_by, read_order, read_request_by, read_request};
 ghost use Rattle.wit_json_reading.specs.Reading.{Reads};
 
 use super::changes::change_by;
@@ -67,8 +68,9 @@ fn request_by(alloc: Global, name: &str, value: &Value<'_>) -> Result<Request, R
 }
 
 /// A request without parts.
+#[tactic(auto, unfolding(crate::specs::Orders::read_request))]
 fn plain_request(alloc: Global, word: &str) -> Result<Request, ReadError>
-    ensures { Reads result (read_plain_request word.now) }
+    ensures { Reads result (read_request (json.string word.now)) }
 {
     match word {
         "package-order" => Ok(Request::Ask(Question::PackageOrder)),

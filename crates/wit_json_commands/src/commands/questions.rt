@@ -1,8 +1,11 @@
 //! Questions about a graph.
 ghost use Rattle.std.specs.Prelude.{◌≡◌};
+ghost use Rattle.json.specs.Json as json;
 ghost use Rattle.json.specs.Value.{value_view};
+ghost use Rattle.wit_json_reading.specs.Objects.{read_variant};
+ghost use Rattle.wit_json_reading.specs.declared.fault.Expected.TheVariants as expected;
 ghost use Rattle.wit_json_commands.specs.Asked.{question_word};
-ghost use Rattle.wit_json_commands.specs.Questions.{read_canonical_id, read_core_names, read_function_place_by, read_function_place, read_interface_question, mangling_in, read_mangling, read_place_in, read_question_by, read_select};
+ghost use Rattle.wit_json_commands.specs.Questions.{read_canonical_id, read_core_names, read_function_place_by, read_interface_question, read_mangling, read_place_in, read_question_by, read_select};
 ghost use Rattle.wit_json_reading.specs.Reading.{Reads};
 
 use json::Value;
@@ -134,8 +137,9 @@ impl ReadJson for Mangling {
 }
 
 /// The names that a word says.
+#[tactic(auto, unfolding(crate::specs::Questions::read_mangling))]
 fn mangling_in(alloc: Global, word: &str) -> Result<Mangling, ReadError>
-    ensures { Reads result (mangling_in word.now) }
+    ensures { Reads result (read_mangling (json.string word.now)) }
 {
     match word {
         "standard32" => Ok(Mangling::Standard32),
@@ -189,9 +193,9 @@ fn function_in(alloc: Global, name: &str, value: &Value<'_>) -> Result<FunctionP
     }
 }
 
-#[tactic(auto, unfolding(crate::specs::Questions::read_function_place))]
 fn function(alloc: Global, value: &Value<'_>) -> Result<FunctionPlace, ReadError>
-    ensures { Reads result (read_function_place (value_view value.now)) }
+    ensures { Reads result
+        (read_variant read_function_place_by expected.FunctionPlace (value_view value.now)) }
 {
     match one_member(value) {
         Some((name, place)) => in_member(alloc, function_in(alloc, name, place), name),

@@ -1,11 +1,13 @@
 //! The names in core wasm of the functions of a world.
-ghost use Rattle.std.specs.Prelude.{◌≡◌, ◌++◌, IfOk, OnOk};
+ghost use Rattle.std.specs.Prelude.{◌≡◌, ◌++◌, IfOk, OnOk, option_and_then, slice_get};
 ghost use Rattle.std.specs.List.{flat_map};
 ghost use Rattle.std.specs.Option.{option_copied};
 ghost use Rattle.wit_elaboration.specs.Valid.{IsValid};
-ghost use Rattle.wit_json_commands.specs.CoreNames.{core_export, core_exports, core_import, core_imports, entry_functions, functions_at, mangling_and_abi};
-ghost use Rattle.wit_json_commands.specs.steps.Placed.{placed_function, placed_functions};
-ghost use Rattle.wit_json_commands.specs.Tells.{core_names};
+ghost use Rattle.wit_json_commands.specs.CoreNames.{core_export, core_exports, core_import, core_imports, core_names_of, entry_functions, mangling_and_abi};
+ghost use Rattle.wit_json_commands.specs.steps.Placed.{functions_at, placed_function, placed_functions};
+ghost use Rattle.wit_json_commands.specs.Tells.{found};
+ghost use Rattle.wit_json_commands.specs.declared.replies.answers.Answer.TheVariants as answers;
+ghost use Rattle.wit_graph_data.specs.Named.{world_named};
 
 use super::names::world_named;
 use crate::commands::Mangling;
@@ -30,8 +32,12 @@ pub fn core_names(
     mangling: Mangling,
 ) -> ResolveResult<Answer>
     requires { IsValid graph.now }
-    ensures { IfOk result
-        (λ answer. answer ≡ core_names graph.now «package».now world.now mangling) }
+    ensures { IfOk result (λ it.
+        it
+        ≡ found
+        (λ world. answers.CoreNames (core_names_of graph.now (mangling_and_abi mangling) world))
+        (option_and_then (slice_get graph.now.worlds)
+        (world_named graph.now «package».now world.now))) }
 {
     let Some(id) = world_named(graph, package, world.as_str()) else {
         return Ok(Answer::NotFound);

@@ -1,8 +1,10 @@
 //! What packages and interfaces depend on.
 ghost use Rattle.std.specs.Prelude.{◌≡◌, ◌<◌, IfOk, length};
 ghost use Rattle.wit_elaboration.specs.Valid.{IsValid};
-ghost use Rattle.wit_graph_data.specs.Queries.{interface_direct_deps, package_direct_deps};
-ghost use Rattle.wit_json_commands.specs.Tells.{interface_dependencies, package_dependencies_answer, package_order};
+ghost use Rattle.wit_graph_data.specs.Named.{package_named};
+ghost use Rattle.wit_graph_data.specs.Queries.{interface_direct_deps, package_direct_deps, topological_packages};
+ghost use Rattle.wit_json_commands.specs.Tells.{found, interface_id_named};
+ghost use Rattle.wit_json_commands.specs.declared.replies.answers.Answer.TheVariants as answers;
 
 use super::names::interface_named;
 use crate::replies::Answer;
@@ -19,7 +21,10 @@ pub fn package_dependencies(
     package: &PackageName,
 ) -> ResolveResult<Answer>
     requires { IsValid graph.now }
-    ensures { IfOk result (λ answer. answer ≡ package_dependencies_answer graph.now «package».now) }
+    ensures { IfOk result (λ it.
+        it
+        ≡ found (λ p. answers.Packages (package_direct_deps graph.now.types graph.now.interfaces
+        graph.now.worlds graph.now.packages p)) (package_named graph.now «package».now)) }
 {
     match graph.package_names.get(package) {
         Some(id) => Ok(Answer::Packages(packages_of(alloc, graph, *id)?)),
@@ -50,8 +55,11 @@ pub fn interface_dependencies(
     interface: &Text,
 ) -> ResolveResult<Answer>
     requires { IsValid graph.now }
-    ensures { IfOk result
-        (λ answer. answer ≡ interface_dependencies graph.now «package».now interface.now) }
+    ensures { IfOk result (λ it.
+        it
+        ≡ found
+        (λ i. answers.Interfaces (interface_direct_deps graph.now.types graph.now.interfaces i))
+        (interface_id_named graph.now «package».now interface.now)) }
 {
     match interface_named(graph, package, interface.as_str()) {
         Some(id) => Ok(Answer::Interfaces(interfaces_of(alloc, graph, id)?)),
@@ -79,7 +87,10 @@ fn interfaces_of(
 /// All packages, each after those that it depends on.
 pub fn package_order(alloc: Global, graph: &Graph) -> ResolveResult<Answer>
     requires { IsValid graph.now }
-    ensures { IfOk result (λ answer. answer ≡ package_order graph.now) }
+    ensures { IfOk result (λ it.
+        it
+        ≡ answers.Packages (topological_packages graph.now.types graph.now.interfaces
+        graph.now.worlds graph.now.packages)) }
 {
     let ids = topological_packages(alloc, graph)?;
     Ok(Answer::Packages(Items::from_vec(ids)))

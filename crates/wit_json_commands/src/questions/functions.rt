@@ -2,7 +2,10 @@
 ghost use Rattle.std.specs.Prelude.{◌≡◌, IfOk};
 ghost use Rattle.std.specs.Option.{option_copied};
 ghost use Rattle.wit_elaboration.specs.Valid.{IsValid};
-ghost use Rattle.wit_json_commands.specs.Tells.{entry_function, export_function, function_at, function_under, futures_and_streams_answer, import_function, interface_function};
+ghost use Rattle.wit_graph_data.specs.Queries.{futures_and_streams as function_futures};
+ghost use Rattle.wit_json_commands.specs.Tells.{entry_function, found, function_at, function_under};
+ghost use Rattle.wit_json_commands.specs.declared.commands.questions.FunctionSite.TheVariants as site;
+ghost use Rattle.wit_json_commands.specs.declared.replies.answers.Answer.TheVariants as answers;
 
 use super::names::{interface_named, world_named};
 use crate::commands::{FunctionPlace, FunctionSite};
@@ -19,7 +22,11 @@ pub fn futures_and_streams(
     place: &FunctionPlace,
 ) -> ResolveResult<Answer>
     requires { IsValid graph.now }
-    ensures { IfOk result (λ answer. answer ≡ futures_and_streams_answer graph.now place.now) }
+    ensures { IfOk result (λ it.
+        it
+        ≡ found (λ f. answers.Types (function_futures graph.now.types f))
+        (function_at graph.now place.now.site place.now.«package» place.now.name
+        place.now.function)) }
 {
     match function_at(graph, place) {
         Some(function) => {
@@ -32,7 +39,9 @@ pub fn futures_and_streams(
 
 /// The function at a place.
 fn function_at<'a>(graph: &'a Graph, place: &FunctionPlace) -> Option<&'a Function>
-    ensures { option_copied result ≡ function_at graph.now place.now }
+    ensures { option_copied result
+        ≡ function_at graph.now place.now.site place.now.«package» place.now.name
+        place.now.function }
 {
     let (package, name, function) = (&place.package, place.name.as_str(), &place.function);
     match place.site {
@@ -50,7 +59,7 @@ fn interface_function<'a>(
     function: &Text,
 ) -> Option<&'a Function>
     ensures { option_copied result
-        ≡ interface_function graph.now «package».now name.now function.now }
+        ≡ function_at graph.now site.Interface «package».now name.now function.now }
 {
     let id = interface_named(graph, package, name)?;
     graph
@@ -67,7 +76,8 @@ fn import_function<'a>(
     name: &str,
     function: &Text,
 ) -> Option<&'a Function>
-    ensures { option_copied result ≡ import_function graph.now «package».now name.now function.now }
+    ensures { option_copied result
+        ≡ function_at graph.now site.Import «package».now name.now function.now }
 {
     let id = world_named(graph, package, name)?;
     function_under(&graph.worlds.get(id.index())?.imports, function)
@@ -80,7 +90,8 @@ fn export_function<'a>(
     name: &str,
     function: &Text,
 ) -> Option<&'a Function>
-    ensures { option_copied result ≡ export_function graph.now «package».now name.now function.now }
+    ensures { option_copied result
+        ≡ function_at graph.now site.Export «package».now name.now function.now }
 {
     let id = world_named(graph, package, name)?;
     function_under(&graph.worlds.get(id.index())?.exports, function)

@@ -1,7 +1,10 @@
 //! Questions and their answers.
 ghost use Rattle.std.specs.Prelude.{◌≡◌, IfOk};
 ghost use Rattle.wit_elaboration.specs.Valid.{IsValid};
-ghost use Rattle.wit_json_commands.specs.Tells.{AnswersQuestion, TellsAnswer, canonical_id};
+ghost use Rattle.wit_json_commands.specs.Tells.{AnswersQuestion, TellsAnswer, found};
+ghost use Rattle.wit_json_commands.specs.declared.replies.answers.Answer.TheVariants as answers;
+ghost use Rattle.wit_graph_data.specs.Named.{package_named};
+ghost use Rattle.wit_graph_data.specs.Queries.{canonical_id_text};
 
 use super::core_names::core_names;
 use super::dependencies::{interface_dependencies, package_dependencies, package_order};
@@ -69,7 +72,10 @@ fn canonical_id(
     package: &PackageName,
     name: &Text,
 ) -> ResolveResult<Answer>
-    ensures { IfOk result (λ answer. answer ≡ canonical_id graph.now «package».now name.now) }
+    ensures { IfOk result (λ it.
+        it
+        ≡ found (λ p. answers.Text (canonical_id_text graph.now.packages p name.now))
+        (package_named graph.now «package».now)) }
 {
     let Some(id) = graph.package_names.get(package) else {
         return Ok(Answer::NotFound);

@@ -1,7 +1,7 @@
 //! Which world a text names.
 ghost use Rattle.std.specs.Prelude.{◌≡◌, IfOk};
 ghost use Rattle.std.specs.Option.{option_map};
-ghost use Rattle.wit_json_commands.specs.Tells.{TellsSelected, TellsSelect, packages_named};
+ghost use Rattle.wit_json_commands.specs.Tells.{TellsAmong, TellsSelected, packages_named};
 
 use crate::replies::{Answer, refused};
 use std::alloc::{AllocError, Global};
@@ -18,7 +18,8 @@ pub fn select(
     world: &Option<Text>,
 ) -> ResolveResult<Answer>
     ensures { IfOk result
-        (λ answer. TellsSelect graph.now files.now packages.now world.now answer) }
+        (λ answer. TellsAmong graph.now files.now (packages_named graph.now packages.now) world.now
+        answer) }
 {
     match packages_named(alloc, graph, packages.as_slice())? {
         Some(mains) => choose(alloc, graph, files, &mains, world),

@@ -1,8 +1,9 @@
 //! Answers to commands.
-ghost use Rattle.std.specs.Prelude.{◌≡◌, ◌++◌, OnOk};
+ghost use Rattle.std.specs.Prelude.{◌≡◌, ◌++◌, OnOk, codes};
 ghost use Rattle.json.specs.Tree.{json_tokens};
 ghost use Rattle.wit_json.specs.steps.Members.{Adds};
-ghost use Rattle.wit_json_commands.specs.Answers.{json_of_answer, json_of_changed, json_of_merge, json_of_response, unmatched_member};
+ghost use Rattle.wit_json_commands.specs.Answers.{json_of_answer, json_of_response, unmatched_member};
+ghost use Rattle.wit_json.specs.Values.{json_of_number, list_of, member, object};
 ghost use Rattle.wit_json_commands.specs.RefusalJson.{json_of_refused};
 
 use super::core_names::CoreNames;
@@ -125,7 +126,11 @@ fn write_changed(
     world: WorldId,
     unmatched: &Items<Text>,
 ) -> Result<(), AllocError>
-    ensures { OnOk result (out.new ≡ out.old ++ json_tokens (json_of_changed world unmatched.now)) }
+    ensures { OnOk result (out.new
+        ≡ out.old
+        ++ json_tokens
+        (object
+        (member (codes "world") (json_of_number world) ++ unmatched_member unmatched.now))) }
 {
     out.begin_object()?;
     out.member("world", &world)?;
@@ -150,7 +155,11 @@ fn write_merge(
     replies: &Items<Answer>,
     reply: &Answer,
 ) -> Result<(), AllocError>
-    ensures { OnOk result (out.new ≡ out.old ++ json_tokens (json_of_merge replies.now reply.now)) }
+    ensures { OnOk result (out.new
+        ≡ out.old
+        ++ json_tokens
+        (object (member (codes "replies") (list_of json_of_answer replies.now)
+        ++ member (codes "reply") (json_of_answer reply.now)))) }
 {
     out.begin_object()?;
     out.member("replies", replies)?;

@@ -2,7 +2,9 @@
 ghost use Rattle.std.specs.Prelude.{◌≡◌, ◌++◌, OnOk};
 ghost use Rattle.json.specs.Tree.{json_tokens};
 ghost use Rattle.wit_json.specs.steps.Members.{Adds};
-ghost use Rattle.wit_json_commands.specs.CoreNamesJson.{interface_member, json_of_core_export, json_of_core_import, json_of_core_names, json_of_key};
+ghost use Rattle.wit_json_commands.specs.CoreNamesJson.{interface_member, json_of_core_export, json_of_core_import, json_of_core_names};
+ghost use Rattle.wit_json.specs.Values.{json_of_text};
+ghost use Rattle.wit_json.specs.Worlds.{entry_name};
 
 use std::alloc::AllocError;
 use wit_data::{Items, Text, WorldKey};
@@ -36,7 +38,7 @@ pub struct CoreNames {
 
 /// Writes the key of an interface, as it names an entry of a world.
 fn write_key(out: &mut JsonText, key: &WorldKey) -> Result<(), AllocError>
-    ensures { OnOk result (out.new ≡ out.old ++ json_tokens (json_of_key key.now)) }
+    ensures { OnOk result (out.new ≡ out.old ++ json_tokens (json_of_text (entry_name key.now))) }
 {
     let (alloc, name) = (out.allocator(), EntryName(key));
     let name = format!(in alloc; "{name}")?;

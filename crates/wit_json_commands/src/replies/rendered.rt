@@ -1,7 +1,8 @@
 //! Refusals as texts.
 ghost use Rattle.std.specs.Prelude.{◌≡◌, IfOk, string_bytes};
 ghost use Rattle.std.specs.List.{flat_map};
-ghost use Rattle.wit_json_commands.specs.Refusals.{arrow_text, place_lines, text_of_error, way_lines};
+ghost use Rattle.wit_json_commands.specs.Refusals.{place_lines, text_of_error, way_lines};
+ghost use Rattle.wit_ways.specs.declared.arrow.Arrow.{Arrow};
 
 use std::alloc::{AllocError, Global};
 use wit_data::{SourceMap, Span, Text};
@@ -67,7 +68,8 @@ fn way_text(alloc: Global, files: &SourceMap, way: &[Arrow]) -> Result<String, A
 /// The lines of the steps of a way.
 fn lines_text(alloc: Global, files: &SourceMap, way: &[Arrow]) -> Result<String, AllocError>
     ensures { IfOk result
-        (λ text. string_bytes text ≡ flat_map (arrow_text files.now.files) way.now) }
+        (λ text. string_bytes text
+        ≡ flat_map (λ (step : Arrow). place_lines files.now.files step.span) way.now) }
 {
     let mut text = String::new(alloc);
     for arrow in way {

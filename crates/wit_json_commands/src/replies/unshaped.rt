@@ -3,9 +3,9 @@ ghost use Rattle.std.specs.Prelude.{◌≡◌, ◌++◌, OnOk, codes};
 ghost use Rattle.json.specs.Tree.{json_tokens};
 ghost use Rattle.wit_json.specs.Values.{json_of_text, member};
 ghost use Rattle.wit_json.specs.steps.Members.{Adds};
-ghost use Rattle.wit_json_commands.specs.UnshapedJson.{fault_members, group_steps, json_of_unshaped, package_path, package_steps};
+ghost use Rattle.wit_json_commands.specs.UnshapedJson.{json_of_unshaped, package_path, steps_to};
 ghost use Rattle.wit_json_commands.specs.steps.Paths.{steps_tokens};
-ghost use Rattle.wit_shape.specs.FaultText.{place_text};
+ghost use Rattle.wit_shape.specs.FaultText.{clause_name, clause_text, place_text};
 
 use std::alloc::AllocError;
 use wit_json::{JsonText, WriteJson};
@@ -23,7 +23,7 @@ pub struct Unshaped {
 
 /// Writes where a group stands in a push.
 fn write_group(out: &mut JsonText, group: Option<usize>) -> Result<(), AllocError>
-    ensures { OnOk result (out.new ≡ out.old ++ steps_tokens (group_steps group)) }
+    ensures { OnOk result (out.new ≡ out.old ++ steps_tokens (steps_to (codes "deps") group)) }
 {
     match group {
         Some(index) => {
@@ -36,7 +36,8 @@ fn write_group(out: &mut JsonText, group: Option<usize>) -> Result<(), AllocErro
 
 /// Writes where a package stands in a group.
 fn write_package(out: &mut JsonText, package: Option<usize>) -> Result<(), AllocError>
-    ensures { OnOk result (out.new ≡ out.old ++ steps_tokens (package_steps «package»)) }
+    ensures { OnOk result
+        (out.new ≡ out.old ++ steps_tokens (steps_to (codes "nested") «package»)) }
 {
     match package {
         Some(index) => {
@@ -90,7 +91,10 @@ fn write_place(out: &mut JsonText, place: ShapePlace) -> Result<(), AllocError>
 
 /// Writes the clause of the shape that is broken, and what breaks it.
 fn write_fault(out: &mut JsonText, fault: ShapeFault) -> Result<(), AllocError>
-    ensures { OnOk result (Adds out.old out.new (fault_members fault)) }
+    ensures { OnOk result (Adds out.old out.new
+        (member (codes "clause") (json_of_text (clause_name fault.clause))
+        ++ member (codes "place") (json_of_text (place_text fault.place))
+        ++ member (codes "text") (json_of_text (clause_text fault.clause)))) }
 {
     write_text(out, "clause", fault.clause.name())?;
     write_place(out, fault.place)?;

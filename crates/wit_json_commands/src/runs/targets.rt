@@ -1,6 +1,6 @@
 //! What the names of a command lead to.
-ghost use Rattle.std.specs.Prelude.{◌≡◌, IfOk, option_copied};
-ghost use Rattle.wit_json_commands.specs.Targets.{done_answer, import_key_texts, keys_not_among, missing_answer, target_of, unmatched_keys, world_target};
+ghost use Rattle.std.specs.Prelude.{◌≡◌, IfOk, option_copied, unwrap_or, []};
+ghost use Rattle.wit_json_commands.specs.Targets.{done_answer, import_key_texts, keys_not_among, missing_answer, target_of, world_target};
 ghost use Rattle.wit_resolve_graph.specs.steps.Parts.{HaveSameTexts};
 
 use crate::replies::Answer;
@@ -98,7 +98,9 @@ fn unmatched_keys(
     keys: Option<&Items<Text>>,
 ) -> ResolveResult<Items<Text>>
     ensures { IfOk result
-        (λ unmatched. unmatched ≡ unmatched_keys graph.now (option_copied keys.entry) world) }
+        (λ unmatched. unmatched
+        ≡ keys_not_among (import_key_texts graph.now world)
+        (unwrap_or (option_copied keys.entry) [])) }
 {
     let Some(keys) = keys else {
         return Ok(Items::new(alloc));

@@ -5,12 +5,13 @@ use Rattle.std.proofs.lemmas.List.{drop-map, length-map, map-append, reverse-app
 use Rattle.std.specs.List.{prefix_len}
 use Rattle.std.specs.Option.{option_and_then, option_map}
 use Rattle.std.proofs.Math.ListN.{get_or-map}
-use Rattle.wit_script_lines.specs.Line.{is_blank_or_comment, is_blank_or_comment_of, is_comment, last_statement_line}
+use Rattle.wit_script_lines.specs.Line.{is_blank_or_comment_of, is_comment, last_statement_line}
 use Rattle.wit_script_lines.specs.Statement.{statement_by, statement_of_tokens}
 use Rattle.wit_script_lines.specs.declared.statement.Statement.{Statement}
 use Rattle.wit_script.specs.Ready.{AreReady}
 use Rattle.wit_script.specs.Script.{IsBad, IsBadLine, after_first, after_line, after_lines, new_reading, reading_before, reading_of}
 use Rattle.wit_script.specs.declared.reader.Reading.{Reading}
+use Rattle.wit_script_lines.specs.steps.Parts.{is_blank_or_comment}
 
 -- a step that changes nothing
 and_then_some : {A : Type 0} (o : Option A) → option_and_then Some o ≡ o

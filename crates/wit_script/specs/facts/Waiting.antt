@@ -11,8 +11,8 @@ use Rattle.wit_resolve_graph.specs.declared.command.Reply.{Reply}
 use Rattle.wit_script.specs.facts.Scripts.{and_then_both}
 use Rattle.wit_script.specs.facts.Stepped.{Makes, adds, said-makes, stays}
 use Rattle.wit_script.specs.Answer.{CarriesOut, with_working_state}
-use Rattle.wit_script.specs.Ready.{CanAllBeAsked, other_after, other_after_all}
-use Rattle.wit_script.specs.steps.Ready.{CanBeAsked}
+use Rattle.wit_script.specs.Ready.{other_after}
+use Rattle.wit_script.specs.steps.Ready.{CanBeAsked, other_after_all, CanAllBeAsked}
 use Rattle.wit_script.specs.Script.{IsUnderstood, after_line, after_lines, new_reading}
 use Rattle.wit_script.specs.declared.answer.Stage.{Stage}
 use Rattle.wit_script.specs.declared.reader.Reading.{Reading}

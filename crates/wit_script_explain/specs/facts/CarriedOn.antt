@@ -1,7 +1,6 @@
 -- Commands that are told one after another, each at its place.
 use Rattle.std.proofs.Common.{◌≡◌, ℕ, List, [], ◌∷◌, ◌++◌, Option, None, Some, is_some, refl, sym, ap, subst, option_map}
 use Rattle.wit_resolve_graph.specs.declared.command.Reply.{Reply}
-use Rattle.wit_script.specs.Ready.{CanAllBeAsked}
 use Rattle.wit_script.specs.facts.Waiting.{others-come}
 use Rattle.wit_script_lines.specs.declared.request.Request.{Request}
 use Rattle.wit_script_explain.specs.Desk.{graphs_of}
@@ -11,6 +10,7 @@ use Rattle.wit_script_explain.specs.declared.desk.TrackedGraph.{TrackedGraph}
 use Rattle.wit_script_explain.specs.declared.lines.CommandPlace.{CommandPlace}
 use Rattle.wit_script_explain.specs.declared.lines.ScriptLines.{ScriptLines}
 use Rattle.wit_script_explain.specs.steps.Explained.{place_of, rest_after, rest_of}
+use Rattle.wit_script.specs.steps.Ready.{CanAllBeAsked}
 
 -- ---- places
 

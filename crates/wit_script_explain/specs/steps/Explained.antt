@@ -5,7 +5,7 @@ use Rattle.wit_resolve_graph.specs.Step.{Step}
 use Rattle.wit_resolve_graph.specs.declared.command.Command.{Command}
 use Rattle.wit_resolve_graph.specs.declared.command.Reply.{Reply}
 use Rattle.wit_script_lines.specs.declared.request.Request.{Request}
-use Rattle.wit_script_explain.specs.Desk.{with_files}
+use Rattle.wit_script_explain.specs.Desk.{with_file_starts}
 use Rattle.wit_script_explain.specs.Refusals.{TellsReply, unless_refused}
 use Rattle.wit_script_explain.specs.declared.desk.TrackedGraph.{TrackedGraph}
 use Rattle.wit_script_explain.specs.declared.lines.CommandPlace.{CommandPlace}
@@ -20,7 +20,8 @@ ExplainsReply script place before command coming brought None text after = ⊥
 ExplainsReply script place before command coming brought (Some reply) text after =
     (new : State) × Step before.resolve command reply new
     × (after
-    ≡ with_files (record before { resolve = new }) coming (unless_refused (Some reply) brought))
+    ≡ with_file_starts (record before { resolve = new }) coming
+    (unless_refused (Some reply) brought))
     × TellsReply script place after (asked_of before.resolve command) (Some reply) text
 
 -- the first of some commands; where there is none, one behind all lines

@@ -13,12 +13,13 @@ use Rattle.wit_data.specs.declared.stability.Stability.{Stability}
 use Rattle.wit_script_lines.specs.Line.{is_comment, tokens_of}
 use Rattle.wit_script_lines.specs.PackageLine.{gate_of_line, package_line_by, ungated_of}
 use Rattle.wit_script_lines.specs.Request.{is_request, request_by}
-use Rattle.wit_script_lines.specs.Statement.{gated_line_by, package_statement_of, push_statement_of, statement_by, statement_of, statement_of_tokens}
+use Rattle.wit_script_lines.specs.Statement.{gated_line_by, statement_by, statement_of, statement_of_tokens}
 use Rattle.wit_script_lines.specs.Token.{name_after, package_name_of, package_with, part_of, read_part, version_of}
 use Rattle.wit_script_lines.specs.declared.package_line.PackageLine.{PackageLine}
 use Rattle.wit_script_lines.specs.declared.statement.Statement.{Statement}
 use Rattle.wit_script_lines.specs.declared.statement.Statement.TheVariants as says
 use Rattle.wit_script_lines.specs.facts.OptionFacts.{map-of, same-some, step-of}
+use Rattle.wit_script_lines.specs.steps.Parts.{package_statement_of, push_statement_of}
 
 -- what is read of a text as a version is one
 read_valid : (text : List ℕ) (read : Result Parts Error) (version : Parts) → version_parts text ≡ read → read_part read ≡ Some version → IsValid version

@@ -6,15 +6,16 @@ use Rattle.wit_names.specs.declared.track.TrackRule.{TrackRule}
 use Rattle.wit_data.specs.declared.stability.Stability.{Stability}
 use Rattle.wit_script_lines.specs.Line.{is_comment, tokens_of}
 use Rattle.wit_script_lines.specs.PackageLine.{gate_of_line, package_line_by, ungated_of}
-use Rattle.wit_script_lines.specs.Request.{alone_of, exportize_of, feature_of, importize_of, importize_to, is_request, keys_of, new_name_of, request_by, select_of, select_with, track_rule_of, tracks_of, world_in, world_of}
-use Rattle.wit_script_lines.specs.Statement.{gated_line_by, package_statement_of, push_statement_of, statement_by, statement_of, statement_of_tokens}
-use Rattle.wit_script_lines.specs.Token.{package_name_of, part_of}
+use Rattle.wit_script_lines.specs.Request.{exportize_of, importize_of, importize_to, is_request, keys_of, request_by, select_of, select_with, track_rule_of, world_in, world_of}
+use Rattle.wit_script_lines.specs.Statement.{gated_line_by, statement_by, statement_of, statement_of_tokens}
+use Rattle.wit_script_lines.specs.Token.{package_name_of, part_of, alone_of}
 use Rattle.wit_script_lines.specs.declared.package_line.PackageLine.{PackageLine}
 use Rattle.wit_script_lines.specs.declared.request.Request.{Request}
 use Rattle.wit_script_lines.specs.declared.request.Request.TheVariants as request
 use Rattle.wit_script_lines.specs.declared.statement.Statement.TheVariants as says
 use Rattle.wit_script_lines.specs.facts.OptionFacts.{map-of, step-of}
 use Rattle.wit_script_lines.specs.steps.Request.{BringsNone}
+use Rattle.wit_script_lines.specs.steps.Parts.{feature_of, tracks_of, new_name_of, package_statement_of, push_statement_of}
 
 -- ---- a command by its first token
 

@@ -1,4 +1,4 @@
-use Rattle.std.proofs.Common.{◌≡◌, ℕ, List, refl}
+use Rattle.std.proofs.Common.{◌≡◌, ℕ, List, refl, sym}
 use Rattle.std.specs.Fmt.{digits}
 use Rattle.wit_digraph.specs.PostOrder.{post_order, post_order_within}
 use Rattle.wit_values.specs.facts.Lists.{differ}
@@ -24,7 +24,7 @@ returns c = record {
   order = refl;
   not_by_id = λ same. cc;
   canonical = refl;
-  not_whole = λ same. differ _ _ refl (text_inside same);
+  not_whole = λ same. differ _ _ refl (sym (text_inside same));
   nowhere = refl;
   future = refl;
   no_future = refl;

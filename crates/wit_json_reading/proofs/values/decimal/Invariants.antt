@@ -1,5 +1,6 @@
 use Rattle.std.proofs.Common.{◌≡◌, ◌<◌, ◌^◌, drop}
-use Rattle.wit_json_reading.specs.Values.{decimal_after, decimal_of, number_below}
+use Rattle.wit_json_reading.specs.Values.{decimal_after, decimal_of}
+use Rattle.wit_json_reading.proofs.Digits.{number_below}
 use Rattle.wit_json_reading.proofs.values.decimal.Given as goal
 
 -- what all digits write is what those that are left write behind the number so far

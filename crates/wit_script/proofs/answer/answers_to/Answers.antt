@@ -2,11 +2,11 @@ use Rattle.std.proofs.Common.{◌≡◌, ◌++◌, ◌∙◌, ◌∷◌, [], ap,
 use Rattle.std.specs.Vec.Iter.{into_iter_items}
 use Rattle.wit_resolve_graph.specs.State.{new_state}
 use Rattle.wit_script.specs.Answer.{Answers, InTurn, only_first}
-use Rattle.wit_script.specs.Ready.{CanAllBeAsked}
 use Rattle.wit_script_lines.specs.declared.request.Request.{Request}
 use Rattle.wit_script.specs.facts.Answered.{InTurn-more}
 use Rattle.wit_script.specs.facts.Waiting.{first-comes, others-come}
 use Rattle.wit_script.proofs.answer.answers_to.Goals as goal
+use Rattle.wit_script.specs.steps.Ready.{CanAllBeAsked}
 
 pub answer_to-requires : goal.answer_to-requires
 answer_to-requires c =

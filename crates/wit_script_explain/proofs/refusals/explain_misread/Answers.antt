@@ -1,7 +1,7 @@
 use Rattle.std.proofs.Common.{◌≡◌, ℕ, List, string_bytes, subst}
 use Rattle.std.specs.Prelude.{IfOk}
-use Rattle.wit_script_explain.specs.Misread.{misread_text}
 use Rattle.wit_script_explain.proofs.refusals.explain_misread.Goals as goal
+use Rattle.wit_script_explain.specs.steps.Parts.{misread_text}
 
 pub returns : goal.returns
 returns c =

@@ -2,10 +2,11 @@ use Rattle.std.proofs.Common.{◌∙◌, ℕ, ap, subst, string_bytes}
 use Rattle.wit_graph_data.specs.Error.{error_number}
 use Rattle.wit_graph_data.specs.ErrorText.{kind_text}
 use Rattle.wit_graph_data.specs.declared.error_kind.ResolveErrorKind.{ResolveErrorKind}
-use Rattle.wit_script_explain.specs.Refusals.{places_text, told_text}
+use Rattle.wit_script_explain.specs.Refusals.{places_text}
 use Rattle.wit_script_explain.specs.Ways.{way_text}
 use Rattle.wit_ways.specs.Told.{IsTold}
 use Rattle.wit_script_explain.proofs.refusals.refusal_text.Goals as goal
+use Rattle.wit_script_explain.specs.steps.Parts.{told_text}
 
 pub returns : goal.returns
 returns c =

@@ -1,11 +1,11 @@
 use Rattle.std.proofs.Common.{◌≡◌, is_some, string_bytes}
 use Rattle.std.specs.Vec.Iter.{into_iter_items}
 use Rattle.wit_script.specs.Answer.{InTurn}
-use Rattle.wit_script.specs.Ready.{CanAllBeAsked}
 use Rattle.wit_script_explain.specs.Desk.{new_desk}
 use Rattle.wit_script_explain.specs.Explained.{ExplainsPlaced, with_places}
 use Rattle.wit_script_explain.specs.steps.Explained.{rest_after}
 use Rattle.wit_script_explain.proofs.refusals.refusals_to.Given as goal
+use Rattle.wit_script.specs.steps.Ready.{CanAllBeAsked}
 
 -- what is told of the commands so far, the places of those that are left, and that these can be asked
 abbrev pub invariant-loop-command : goal.invariant-loop-command

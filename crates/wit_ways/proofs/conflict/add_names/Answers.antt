@@ -1,5 +1,5 @@
-use Rattle.std.proofs.Common.{◌∙◌, ◌+◌, ℕ, List, ap, drop, sym}
-use Rattle.wit_ways.specs.Conflicts.{with_names}
+use Rattle.std.proofs.Common.{◌∙◌, ◌+◌, ℕ, List, ap, drop, sym, fold}
+use Rattle.wit_ways.specs.Conflicts.{with_name}
 use Rattle.wit_ways.proofs.Ranges.{drop_next}
 use Rattle.wit_ways.proofs.conflict.add_names.Goals as goal
 
@@ -7,5 +7,5 @@ pub loop-index-preserved : goal.loop-index-preserved
 loop-index-preserved c =
     let more = c.args.more.now in
     let index : ℕ = c.loop-index.index in
-    ap (λ (names : List (List ℕ)). with_names names (drop (index + 1) more)) c.in_ok-insert.ensures.ok
-    ∙ sym (ap (with_names c.loop-index.names) (drop_next more index c.text_at.result.now c.text_at.ensures)) ∙ c.loop-index.invariant
+    ap (λ (names : List (List ℕ)). fold with_name names (drop (index + 1) more)) c.in_ok-insert.ensures.ok
+    ∙ sym (ap (fold with_name c.loop-index.names) (drop_next more index c.text_at.result.now c.text_at.ensures)) ∙ c.loop-index.invariant

@@ -1,7 +1,7 @@
-use Rattle.std.proofs.Common.{◌≡◌, drop}
-use Rattle.wit_ways.specs.Conflicts.{with_names}
+use Rattle.std.proofs.Common.{◌≡◌, drop, fold}
+use Rattle.wit_ways.specs.Conflicts.{with_name}
 use Rattle.wit_ways.proofs.conflict.add_names.Given as goal
 
 -- the names so far, and those that are left, are all
 abbrev pub invariant-loop-index : goal.invariant-loop-index
-invariant-loop-index l = with_names l.names (drop l.index l.more) ≡ with_names l.initial.names l.more
+invariant-loop-index l = fold with_name l.names (drop l.index l.more) ≡ fold with_name l.initial.names l.more

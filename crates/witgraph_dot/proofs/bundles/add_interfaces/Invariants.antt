@@ -1,6 +1,6 @@
 use Rattle.std.proofs.Common.{◌≡◌, ◌++◌, take}
-use Rattle.witgraph_dot.specs.Bundles.{arrows_to_interfaces}
 use Rattle.witgraph_dot.proofs.bundles.add_interfaces.Given as goal
+use Rattle.witgraph_dot.specs.steps.Parts.{arrows_to_interfaces}
 
 -- the arrows so far
 abbrev pub invariant-loop-id : goal.invariant-loop-id

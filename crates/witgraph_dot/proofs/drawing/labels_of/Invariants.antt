@@ -1,5 +1,5 @@
 use Rattle.std.proofs.Common.{◌≡◌, filter_map, fold, string_bytes}
-use Rattle.witgraph_dot.specs.Lines.{and_label, label_for, label_lines}
+use Rattle.witgraph_dot.specs.Lines.{label_for, label_lines, and_label}
 use Rattle.witgraph_dot.proofs.drawing.labels_of.Given as goal
 
 -- with the labels of the entries that are left it has all

@@ -2,8 +2,8 @@ use Rattle.std.proofs.Common.{[], string_bytes}
 use Rattle.std.specs.List.{flat_map}
 use Rattle.witgraph_dot.proofs.Appended.{piece-behind}
 use Rattle.witgraph_dot.specs.Lines.{uses_lines, world_lines}
-use Rattle.witgraph_dot.specs.Scene.{view_of}
 use Rattle.witgraph_dot.proofs.drawing.write_arrows.Goals as goal
+use Rattle.witgraph_dot.specs.steps.Parts.{view_of}
 
 pub loop-user-preserved : goal.loop-user-preserved
 loop-user-preserved c =

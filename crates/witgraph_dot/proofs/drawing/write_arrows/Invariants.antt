@@ -1,8 +1,8 @@
 use Rattle.std.proofs.Common.{◌≡◌, ◌++◌, string_bytes, take}
 use Rattle.std.specs.List.{flat_map}
 use Rattle.witgraph_dot.specs.Lines.{uses_lines, world_lines}
-use Rattle.witgraph_dot.specs.Scene.{view_of}
 use Rattle.witgraph_dot.proofs.drawing.write_arrows.Given as goal
+use Rattle.witgraph_dot.specs.steps.Parts.{view_of}
 
 -- those from the interfaces so far
 abbrev pub invariant-loop-user : goal.invariant-loop-user

@@ -1,8 +1,8 @@
 use Rattle.std.proofs.Common.{◌≡◌, ◌++◌, string_bytes, take}
 use Rattle.std.specs.List.{flat_map}
 use Rattle.witgraph_dot.specs.Lines.{arrow_line}
-use Rattle.witgraph_dot.specs.Scene.{view_of}
 use Rattle.witgraph_dot.proofs.drawing.write_each.Given as goal
+use Rattle.witgraph_dot.specs.steps.Parts.{view_of}
 
 -- the arrows so far
 abbrev pub invariant-loop-arrow : goal.invariant-loop-arrow

@@ -4,9 +4,9 @@ use Rattle.std.proofs.lemmas.Grind.{common_steps}
 use Rattle.std.proofs.lemmas.Option.{slice_get_read}
 use Rattle.wit_graph_data.specs.declared.graph.Package.{Package}
 use Rattle.witgraph_dot.proofs.Written.{frame-ended}
-use Rattle.witgraph_dot.specs.Lines.{frame_end, inner_suffix}
-use Rattle.witgraph_dot.specs.Scene.{view_of}
+use Rattle.witgraph_dot.specs.Lines.{frame_end}
 use Rattle.witgraph_dot.proofs.drawing.write_frame_end.Goals as goal
+use Rattle.witgraph_dot.specs.steps.Parts.{inner_suffix, view_of}
 
 pub returns : goal.returns
 returns c =

@@ -1,8 +1,9 @@
 use Rattle.std.proofs.Common.{◌≡◌, ◌++◌, OnOk, filter_map, rules, string_bytes}
 use Rattle.witgraph_dot.proofs.Appended.{three-ok}
 use Rattle.witgraph_dot.proofs.Written.{labelled-as}
-use Rattle.witgraph_dot.specs.Lines.{arrow_from_box, arrow_to_box, box_name, label_box, label_for, label_lines, look}
+use Rattle.witgraph_dot.specs.Lines.{box_name, label_for, label_lines, look, label_box}
 use Rattle.witgraph_dot.proofs.drawing.write_labelled_arrow.Goals as goal
+use Rattle.witgraph_dot.specs.steps.Parts.{arrow_to_box, arrow_from_box}
 
 pub returns : goal.returns
 returns c =

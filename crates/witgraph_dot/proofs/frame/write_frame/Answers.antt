@@ -3,9 +3,9 @@ use Rattle.std.proofs.Common.{◌≡◌, ◌&&◌, ◌==◌, ℕ, Some, false, l
 use Rattle.std.proofs.lemmas.Grind.{common_steps}
 use Rattle.witgraph_dot.proofs.Written.{frame-written}
 use Rattle.witgraph_dot.specs.Frames.{shows_world}
-use Rattle.witgraph_dot.specs.Scene.{view_of}
 use Rattle.witgraph_dot.proofs.frame.write_frame.Goals as goal
 use Rattle.witgraph_dot.proofs.frame.write_frame.Goals.{else-is_empty-via-then-is_empty+else-not-shows_world, else-is_empty-via-else-is_empty}
+use Rattle.witgraph_dot.specs.steps.Parts.{view_of}
 
 pub returns : goal.returns
 returns c =

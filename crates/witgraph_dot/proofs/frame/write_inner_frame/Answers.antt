@@ -1,7 +1,7 @@
 use Rattle.std.proofs.Common.{◌≡◌, ◌++◌, string_bytes}
 use Rattle.witgraph_dot.proofs.Appended.{three-ok, when-ok}
-use Rattle.witgraph_dot.specs.Frames.{inner_head}
 use Rattle.witgraph_dot.proofs.frame.write_inner_frame.Goals as goal
+use Rattle.witgraph_dot.specs.steps.Parts.{inner_head}
 
 pub returns : goal.returns
 returns c =

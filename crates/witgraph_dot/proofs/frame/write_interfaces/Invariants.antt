@@ -1,8 +1,9 @@
 use Rattle.std.proofs.Common.{◌≡◌, ◌++◌, ℕ, List, [], if◌then◌else◌, string_bytes}
 use Rattle.std.specs.List.{flat_map}
-use Rattle.witgraph_dot.specs.Boxes.{interface_box, interface_boxes}
+use Rattle.witgraph_dot.specs.Boxes.{interface_boxes}
 use Rattle.witgraph_dot.specs.Sets.{is_one_of}
 use Rattle.witgraph_dot.proofs.frame.write_interfaces.Given as goal
+use Rattle.witgraph_dot.specs.steps.Parts.{interface_box}
 
 -- with those of the entries that are left it has all
 abbrev pub invariant-loop-name : goal.invariant-loop-name

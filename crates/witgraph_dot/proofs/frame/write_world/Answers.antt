@@ -1,7 +1,7 @@
 use Rattle.std.proofs.Common.{◌≡◌, ◌++◌, ℕ, List, string_bytes, subst}
-use Rattle.witgraph_dot.specs.Boxes.{world_head}
 use Rattle.witgraph_dot.proofs.Appended.{appended-ok, when-ok}
 use Rattle.witgraph_dot.proofs.frame.write_world.Goals as goal
+use Rattle.witgraph_dot.specs.steps.Parts.{world_head}
 
 pub returns : goal.returns
 returns c =

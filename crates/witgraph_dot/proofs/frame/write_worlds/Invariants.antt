@@ -1,7 +1,8 @@
 use Rattle.std.proofs.Common.{◌≡◌, ◌++◌, ℕ, List, string_bytes}
 use Rattle.std.specs.List.{flat_map}
-use Rattle.witgraph_dot.specs.Frames.{shown_world, world_boxes}
+use Rattle.witgraph_dot.specs.Frames.{world_boxes}
 use Rattle.witgraph_dot.proofs.frame.write_worlds.Given as goal
+use Rattle.witgraph_dot.specs.steps.Parts.{shown_world}
 
 -- with those of the entries that are left it has all
 abbrev pub invariant-loop-id : goal.invariant-loop-id

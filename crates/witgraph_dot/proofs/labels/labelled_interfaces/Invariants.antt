@@ -1,8 +1,8 @@
 use Rattle.std.proofs.Common.{◌≡◌, ◌++◌, filter}
 use Rattle.wit_digraph.specs.PostOrder.{fresh, first_of_each}
-use Rattle.witgraph_dot.specs.Labels.{labelled_interfaces}
 use Rattle.witgraph_dot.specs.Sets.{is_one_of}
 use Rattle.witgraph_dot.proofs.labels.labelled_interfaces.Given as goal
+use Rattle.witgraph_dot.specs.steps.Parts.{labelled_interfaces}
 
 -- those so far, and those that are left and aren't among them
 abbrev pub invariant-loop-key : goal.invariant-loop-key

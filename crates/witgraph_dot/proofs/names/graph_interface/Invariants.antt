@@ -1,7 +1,8 @@
 use Rattle.std.proofs.Common.{◌≡◌, ◌++◌, map}
 use Rattle.wit_data.specs.Foreign.{ForeignItem}
-use Rattle.witgraph_dot.specs.Pushed.{foreign_items, interface_among, graph_interface}
+use Rattle.witgraph_dot.specs.Pushed.{foreign_items, graph_interface}
 use Rattle.witgraph_dot.proofs.names.graph_interface.Given as goal
+use Rattle.witgraph_dot.specs.steps.Parts.{interface_among}
 
 -- it isn't among the items so far
 abbrev pub invariant-loop-owner : goal.invariant-loop-owner

@@ -1,7 +1,8 @@
 use Rattle.std.proofs.Common.{◌≡◌, ◌++◌, map}
 use Rattle.wit_data.specs.Foreign.{ForeignItem}
-use Rattle.witgraph_dot.specs.Pushed.{foreign_items, world_among, graph_world}
+use Rattle.witgraph_dot.specs.Pushed.{foreign_items, graph_world}
 use Rattle.witgraph_dot.proofs.names.graph_world.Given as goal
+use Rattle.witgraph_dot.specs.steps.Parts.{world_among}
 
 -- it isn't among the items so far
 abbrev pub invariant-loop-owner : goal.invariant-loop-owner

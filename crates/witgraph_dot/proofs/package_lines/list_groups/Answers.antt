@@ -2,8 +2,9 @@ use native.Mathlib.Omega.{arith}
 use Rattle.std.proofs.Common.{◌≡◌, ◌∙◌, ◌-◌, ap, fold, length}
 use Rattle.std.proofs.lemmas.Grind.{common_steps}
 use Rattle.witgraph_dot.proofs.Gathered.{rounds-end, rounds-left}
-use Rattle.witgraph_dot.specs.Pushed.{repeated, with_brought}
+use Rattle.witgraph_dot.specs.Pushed.{repeated}
 use Rattle.witgraph_dot.proofs.package_lines.list_groups.Goals as goal
+use Rattle.witgraph_dot.specs.steps.Parts.{with_brought}
 
 pub loop-round-preserved : goal.loop-round-preserved
 loop-round-preserved c =

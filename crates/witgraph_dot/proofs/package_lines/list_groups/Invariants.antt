@@ -1,7 +1,8 @@
 use Rattle.std.proofs.Common.{◌≡◌, ◌++◌, ◌-◌, drop}
 use Rattle.witgraph_dot.specs.Listed.{with_links}
-use Rattle.witgraph_dot.specs.Pushed.{group_links, line_imports, line_includes, repeated, with_brought}
+use Rattle.witgraph_dot.specs.Pushed.{group_links, line_imports, line_includes, repeated}
 use Rattle.witgraph_dot.proofs.package_lines.list_groups.Given as goal
+use Rattle.witgraph_dot.specs.steps.Parts.{with_brought}
 
 -- with what the lines of the groups that are left list it has all
 abbrev pub invariant-loop-group : goal.invariant-loop-group

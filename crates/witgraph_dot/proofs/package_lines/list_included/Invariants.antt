@@ -1,6 +1,6 @@
 use Rattle.std.proofs.Common.{◌≡◌, drop, fold}
-use Rattle.witgraph_dot.specs.Pushed.{with_brought}
 use Rattle.witgraph_dot.proofs.package_lines.list_included.Given as goal
+use Rattle.witgraph_dot.specs.steps.Parts.{with_brought}
 
 -- with what the includes that are left bring it has all
 abbrev pub invariant-loop-include : goal.invariant-loop-include

@@ -1,8 +1,9 @@
 use Rattle.std.proofs.Common.{◌≡◌, ◌++◌, drop, filter_map}
 use Rattle.wit_data.specs.declared.world.WorldInclude.{WorldInclude}
 use Rattle.witgraph_dot.specs.Listed.{with_links}
-use Rattle.witgraph_dot.specs.Pushed.{links_for, line_includes, graph_world}
+use Rattle.witgraph_dot.specs.Pushed.{line_includes, graph_world}
 use Rattle.witgraph_dot.proofs.package_lines.list_includes.Given as goal
+use Rattle.witgraph_dot.specs.steps.Parts.{links_for}
 
 -- with what the lines that are left include it has all
 abbrev pub invariant-loop-include : goal.invariant-loop-include

@@ -3,8 +3,9 @@ use Rattle.std.specs.List.{enumerate_from}
 use Rattle.wit_data.specs.declared.world.World.{World}
 use Rattle.witgraph_dot.proofs.Gathered.{first-left, others-end, others-make}
 use Rattle.witgraph_dot.specs.Listed.{and_link}
-use Rattle.witgraph_dot.specs.Pushed.{world_links, graph_world, line_imports, line_includes}
+use Rattle.witgraph_dot.specs.Pushed.{graph_world, line_imports, line_includes}
 use Rattle.witgraph_dot.proofs.package_lines.list_package.Goals as goal
+use Rattle.witgraph_dot.specs.steps.Parts.{world_links}
 
 pub loop-index-preserved : goal.loop-index-preserved
 loop-index-preserved c =

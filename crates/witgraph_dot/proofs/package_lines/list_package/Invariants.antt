@@ -2,8 +2,9 @@ use Rattle.std.proofs.Common.{◌≡◌, ◌++◌, ℕ, drop}
 use Rattle.std.specs.List.{enumerate_from, flat_map}
 use Rattle.wit_data.specs.declared.world.World.{World}
 use Rattle.witgraph_dot.specs.Listed.{with_links}
-use Rattle.witgraph_dot.specs.Pushed.{line_imports, line_includes, links_in_package, world_links, graph_world}
+use Rattle.witgraph_dot.specs.Pushed.{line_imports, line_includes, links_in_package, graph_world}
 use Rattle.witgraph_dot.proofs.package_lines.list_package.Given as goal
+use Rattle.witgraph_dot.specs.steps.Parts.{world_links}
 
 -- with what the lines of the worlds that are left list it has all
 abbrev pub invariant-loop-index : goal.invariant-loop-index

@@ -4,9 +4,10 @@ use Rattle.witgraph_dot.proofs.Viewed.{view-is}
 use Rattle.witgraph_dot.specs.Frames.{frame_texts}
 use Rattle.witgraph_dot.specs.Lines.{arrow_lines}
 use Rattle.witgraph_dot.specs.Picture.{note_line, picture_text}
-use Rattle.witgraph_dot.specs.Scene.{View, view_of}
+use Rattle.witgraph_dot.specs.Scene.{View}
 use Rattle.witgraph_dot.specs.declared.picture.TheConstants.{END, HEAD, LEGEND}
 use Rattle.witgraph_dot.proofs.picture.draw.Goals as goal
+use Rattle.witgraph_dot.specs.steps.Parts.{view_of}
 
 pub returns : goal.returns
 returns c =

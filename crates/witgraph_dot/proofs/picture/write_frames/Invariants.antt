@@ -1,7 +1,7 @@
 use Rattle.std.proofs.Common.{◌≡◌, ◌++◌, drop, string_bytes}
 use Rattle.witgraph_dot.specs.Frames.{frame_texts}
-use Rattle.witgraph_dot.specs.Scene.{view_of}
 use Rattle.witgraph_dot.proofs.picture.write_frames.Given as goal
+use Rattle.witgraph_dot.specs.steps.Parts.{view_of}
 
 -- with the frames that are left it has all
 abbrev pub invariant-loop-index : goal.invariant-loop-index

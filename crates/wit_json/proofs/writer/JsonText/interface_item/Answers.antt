@@ -1,6 +1,5 @@
 use Rattle.std.proofs.Common.{codes}
 use Rattle.wit_json.specs.facts.MemberFacts.{tag_closed}
-use Rattle.wit_json.specs.Worlds.{json_of_interface_entry}
 use Rattle.wit_json.proofs.writer.JsonText.interface_item.Goals as goal
 
 pub returns : goal.returns

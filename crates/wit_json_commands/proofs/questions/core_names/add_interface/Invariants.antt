@@ -1,6 +1,5 @@
 use Rattle.std.proofs.Common.{◌≡◌, ◌++◌, Some, map}
-use Rattle.wit_json_commands.specs.CoreNames.{functions_at}
-use Rattle.wit_json_commands.specs.steps.Placed.{placed_functions}
+use Rattle.wit_json_commands.specs.steps.Placed.{functions_at, placed_functions}
 use Rattle.wit_json_commands.proofs.questions.core_names.add_interface.Given as goal
 
 -- those so far, and those that are left

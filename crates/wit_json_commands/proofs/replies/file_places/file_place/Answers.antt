@@ -1,7 +1,9 @@
 use Rattle.std.proofs.Common.{◌∙◌, List, ℕ, Option, Some, option_map, ap, sym}
-use Rattle.wit_json_commands.specs.FilePlaces.{file_place_of}
 use Rattle.wit_json_commands.specs.declared.replies.file_places.FilePlace.{FilePlace}
 use Rattle.wit_json_commands.proofs.replies.file_places.file_place.Goals as goal
+
+abbrev file_place_of : List ℕ × ℕ × ℕ → FilePlace
+file_place_of it = record { path = it.0; line = it.1; column = it.2 }
 
 pub returns-in_ok-path-in-Some : goal.returns-in_ok-path-in-Some
 returns-in_ok-path-in-Some c =

@@ -1,9 +1,13 @@
-use Rattle.std.proofs.Common.{◌≡◌, ◌∙◌, ◌++◌, ℕ, List, ap, string_bytes, rules}
+use Rattle.std.proofs.Common.{◌≡◌, ◌∙◌, ◌++◌, ℕ, List, ap, string_bytes, rules, codes, decimal}
 use Rattle.std.specs.List.{flat_map}
 use Rattle.wit_graph_data.specs.Error.{error_number}
 use Rattle.wit_graph_data.specs.ErrorText.{kind_text}
-use Rattle.wit_json_commands.specs.Refusals.{asked_text, place_lines, way_lines}
+use Rattle.wit_json_commands.specs.Refusals.{place_lines, way_lines}
 use Rattle.wit_json_commands.proofs.replies.rendered.text_of_error.Goals as goal
+
+-- what was asked, and the number, on lines of their own
+abbrev asked_text : List ℕ → ℕ → List ℕ
+asked_text asked number = codes "\n      = " ++ (asked ++ (codes "\n      = " ++ (decimal number ++ codes " in docs/REFUSALS.md")))
 
 pub returns : goal.returns
 returns c =

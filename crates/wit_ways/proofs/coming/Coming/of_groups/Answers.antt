@@ -1,8 +1,8 @@
 use Rattle.std.proofs.Common.{◌≡◌, ◌∷◌, ◌∙◌, ◌+◌, ◌<◌, ◌^◌, ℕ, ap, drop, refl, rules}
 use Rattle.std.proofs.lemmas.Option.{slice_get_read}
-use Rattle.wit_ways.specs.Coming.{coming_packages, joined, packages_at, placed_packages}
+use Rattle.wit_ways.specs.Coming.{coming_packages, joined, placed_packages}
 use Rattle.wit_ways.specs.declared.coming.Coming.{Coming}
-use Rattle.wit_ways.proofs.Groups.{next_group}
+use Rattle.wit_ways.proofs.Groups.{next_group, packages_at}
 use Rattle.wit_ways.proofs.coming.Coming.of_groups.Goals as goal
 
 pub loop-group-preserved : goal.loop-group-preserved

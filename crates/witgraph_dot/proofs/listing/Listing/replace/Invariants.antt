@@ -1,6 +1,6 @@
 use Rattle.std.proofs.Common.{◌≡◌, take}
-use Rattle.witgraph_dot.specs.Listed.{others_of}
 use Rattle.witgraph_dot.proofs.listing.Listing.replace.Given as goal
+use Rattle.witgraph_dot.specs.steps.Parts.{others_of}
 
 -- those of the imports so far that are of other worlds
 abbrev pub invariant-loop-import : goal.invariant-loop-import

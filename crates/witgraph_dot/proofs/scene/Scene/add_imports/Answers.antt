@@ -1,7 +1,7 @@
 use Rattle.std.proofs.Common.{◌∙◌}
 use Rattle.witgraph_dot.proofs.Imported.{imports-added}
 use Rattle.witgraph_dot.proofs.scene.Scene.add_imports.Goals as goal
-use Rattle.witgraph_dot.specs.Scene.{view_of}
+use Rattle.witgraph_dot.specs.steps.Parts.{view_of}
 
 pub returns : goal.returns
 returns c =

@@ -2,8 +2,9 @@ use Rattle.std.proofs.Common.{◌≡◌, ◌++◌, ℕ, List, filter}
 use Rattle.wit_graph_data.specs.Queries.{interface_direct_deps}
 use Rattle.wit_digraph.specs.PostOrder.{first_of_each, fresh}
 use Rattle.witgraph_dot.specs.Sets.{is_one_of}
-use Rattle.witgraph_dot.specs.Scene.{View, view_of}
+use Rattle.witgraph_dot.specs.Scene.{View}
 use Rattle.witgraph_dot.proofs.scene.Scene.uses_arrows.Given as goal
+use Rattle.witgraph_dot.specs.steps.Parts.{view_of}
 
 -- the interfaces that interface i uses and that are shown, each once
 abbrev shown_uses : View → ℕ → List ℕ

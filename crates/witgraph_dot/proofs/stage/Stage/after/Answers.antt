@@ -1,7 +1,6 @@
 use Rattle.std.proofs.Common.{◌≡◌, ◌++◌, ◌∙◌, ◌∷◌, [], ap, is_some, sym, subst, string_bytes, ℕ, List, rules}
 use Rattle.std.specs.Vec.Iter.{into_iter_items}
 use Rattle.wit_script.specs.Answer.{InTurn}
-use Rattle.wit_script.specs.Ready.{CanAllBeAsked}
 use Rattle.wit_script.specs.facts.Answered.{InTurn-more}
 use Rattle.wit_script.specs.facts.Waiting.{first-comes}
 use Rattle.wit_script_lines.specs.declared.request.Request.{Request}
@@ -10,7 +9,9 @@ use Rattle.wit_script_explain.specs.facts.CarriedOn.{desk-come, rest_after-more,
 use Rattle.wit_script_explain.specs.steps.Explained.{place_of, rest_after, rest_of}
 use Rattle.wit_script_explain.specs.declared.lines.CommandPlace.{CommandPlace}
 use Rattle.witgraph_dot.proofs.stage.Stage.after.Goals as goal
-use Rattle.witgraph_dot.specs.Made.{CommandMakes, new_stage}
+use Rattle.witgraph_dot.specs.Made.{CommandMakes}
+use Rattle.witgraph_dot.specs.steps.Parts.{new_stage}
+use Rattle.wit_script.specs.steps.Ready.{CanAllBeAsked}
 
 pub carry_out-requires : goal.carry_out-requires
 carry_out-requires c =

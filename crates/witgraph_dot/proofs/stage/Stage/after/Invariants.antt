@@ -1,9 +1,9 @@
 use Rattle.std.proofs.Common.{◌≡◌, is_some, string_bytes}
 use Rattle.std.specs.Vec.Iter.{into_iter_items}
-use Rattle.wit_script.specs.Ready.{CanAllBeAsked}
 use Rattle.wit_script_explain.specs.steps.Explained.{rest_after}
 use Rattle.witgraph_dot.proofs.stage.Stage.after.Given as goal
 use Rattle.witgraph_dot.specs.Made.{ScriptMakes}
+use Rattle.wit_script.specs.steps.Ready.{CanAllBeAsked}
 
 -- what there is after the commands so far, the places of those that are left, and that these can be asked
 abbrev pub invariant-loop-command : goal.invariant-loop-command
