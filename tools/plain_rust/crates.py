@@ -16,9 +16,10 @@ LIBRARIES = (
     "wit_json_reading",
     "wit_json_commands",
     "wit_print",
+    "wit_groups",
     "witgraph_calls",
 )
-PROGRAMS = ("witgraph", "witgraph_json", "witgraph_dot")
+PROGRAMS = ("wit", "witgraph", "witgraph_json", "witgraph_dot")
 # libraries whose `#[test]` functions `cargo test` runs
 TESTS = ("test_facades", "test_json", "test_resolve")
 # programs that `cargo test` runs on what is stored beside them
