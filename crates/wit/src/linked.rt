@@ -1,11 +1,11 @@
 //! The graph that options ask for.
 
 use crate::files::Sources;
-use crate::options::{Options, Turn};
 use crate::refusal::{Refusal, told};
 use crate::turns::{check_keys, command_at};
 use std::alloc::Global;
 use wit_groups::read_groups;
+use wit_options::{Options, Turn};
 use wit_resolve_graph::{Items, PackageId, Reply, Resolve, WorldId, carry_out};
 
 /// The packages of what was read as one graph, and the main package of the first.

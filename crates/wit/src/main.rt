@@ -1,31 +1,26 @@
 //! Reads WIT, and prints what a world imports, or the graph as JSON or WIT.
 #![tactic(auto)]
 
-mod arguments;
 mod core_names;
 mod fault;
 mod files;
 mod linked;
-mod options;
-mod outcome;
 mod pretty;
 mod printing;
 mod refusal;
 mod turns;
-mod usage;
 
-use crate::arguments::{Asked, asked_by};
 use crate::fault::PathFault;
 use crate::files::{Sources, read_path};
 use crate::linked::Linked;
-use crate::options::Options;
-use crate::outcome::{Outcome, deliver, or_memory};
 use crate::refusal::Refusal;
-use crate::usage::{HINT, USAGE, UsageFault};
 use std::alloc::{AllocError, Global};
 use std::env;
 use std::io;
 use std::process::ExitCode;
+use wit_options::{
+    Asked, HINT, Options, Outcome, USAGE, UsageFault, asked_by, deliver, or_memory,
+};
 use wit_resolve_graph::{Items, Text};
 use wit_streams::Watched;
 

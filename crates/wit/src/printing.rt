@@ -2,12 +2,12 @@
 
 use crate::core_names::core_names_text;
 use crate::linked::Linked;
-use crate::options::{Options, Output};
 use crate::pretty::in_lines;
 use crate::refusal::{Refusal, told};
 use std::alloc::{AllocError, Global};
 use wit_json::graph_to_json;
 use wit_print::print_graph;
+use wit_options::{Options, Output};
 use wit_resolve_graph::{ManglingAndAbi, Resolve, ResolveResult, WorldId};
 
 impl Linked {

@@ -1,33 +1,12 @@
 //! What becomes of worlds, as commands of `Resolve`.
 
-use crate::options::Turn;
 use crate::refusal::{Refusal, told};
 use std::alloc::{AllocError, Global};
+use wit_options::Turn;
 use wit_resolve_graph::{
     Command, Graph, Items, Resolve, ResolveResult, Table, Text, TryClone, WorldId, WorldItem,
     WorldKey,
 };
-
-impl Turn {
-    /// The world that is turned.
-    pub fn world(&self) -> &Text {
-        match self {
-            Turn::Importize(world) => world,
-            Turn::Exportize { world, .. } => world,
-            Turn::Semver(world) => world,
-        }
-    }
-
-    /// The keys that are listed, where some are.
-    fn keys(&self) -> &[Text] {
-        match self {
-            Turn::Exportize {
-                keys: Some(keys), ..
-            } => keys.as_slice(),
-            _ => &[],
-        }
-    }
-}
 
 /// The command that turns a world. None if the world, or its package, isn't there.
 pub fn command_at(

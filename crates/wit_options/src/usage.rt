@@ -1,8 +1,9 @@
 //! Why arguments can't be followed, and how the program is called.
+ghost use Rattle.std.specs.Prelude.{Some};
+ghost use Rattle.wit_options.specs.UsageText.{usage_fault_text};
 
-use std::alloc::AllocError;
 use std::fmt;
-use wit_resolve_graph::Text;
+use wit_data::Text;
 
 /// How the program is called.
 pub const USAGE: &str = "usage: wit [OPTIONS] PATH..
@@ -48,10 +49,14 @@ pub enum UsageFault {
 }
 
 impl fmt::Display for UsageFault {
+    ghost output = { λ fault. Some (usage_fault_text fault) };
+
     fn fmt<W: fmt::Write>(&self, f: &mut fmt::Formatter<W>) -> fmt::Result {
         match self {
             UsageFault::Unknown(word) => write!(f, "there is no option `{word}`"),
-            UsageFault::Twice(word) => write!(f, "`{word}` comes too late: an option before says that"),
+            UsageFault::Twice(word) => {
+                write!(f, "`{word}` comes too late: a word before it says that")
+            }
             UsageFault::NoValue(word) => write!(f, "`{word}` wants a value"),
             UsageFault::NotAValue { option, value } => {
                 write!(f, "`{value}` is no value of `{option}`")

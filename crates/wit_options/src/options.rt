@@ -1,7 +1,10 @@
 //! What a call of the program asks for, as data.
+ghost use Rattle.std.specs.Prelude.{◌≡◌};
+ghost use Rattle.wit_options.specs.Arguments.{no_options};
+ghost use Rattle.wit_options.specs.Turns.{listed_keys, turned_world};
 
 use std::alloc::Global;
-use wit_resolve_graph::{Items, ManglingAndAbi, Text, TrackRule};
+use wit_data::{Items, ManglingAndAbi, Text, TrackRule};
 
 /// What is written of the graph.
 #[derive(Clone, Copy)]
@@ -32,6 +35,31 @@ pub enum Turn {
     Semver(Text),
 }
 
+impl Turn {
+    /// The world that is turned.
+    pub fn world(&self) -> &Text
+        ensures { result.now ≡ turned_world self.now }
+    {
+        match self {
+            Turn::Importize(world) => world,
+            Turn::Exportize { world, .. } => world,
+            Turn::Semver(world) => world,
+        }
+    }
+
+    /// The keys that are listed, where some are.
+    pub fn keys(&self) -> &[Text]
+        ensures { result.now ≡ listed_keys self.now }
+    {
+        match self {
+            Turn::Exportize {
+                keys: Some(keys), ..
+            } => keys.as_slice(),
+            _ => &[],
+        }
+    }
+}
+
 /// What is read, what becomes of it, and what is written.
 #[derive(Drop)]
 pub struct Options {
@@ -51,7 +79,9 @@ pub struct Options {
 
 impl Options {
     /// Nothing is asked for.
-    pub fn new(alloc: Global) -> Options {
+    pub fn new(alloc: Global) -> Options
+        ensures { result ≡ no_options }
+    {
         Options {
             paths: Items::new(alloc),
             merges: Items::new(alloc),
