@@ -1,7 +1,6 @@
 //! Why files aren't read as a group of packages.
-ghost use Rattle.std.specs.Prelude.{◌≡◌, IfErr, IfOk};
 
-use std::alloc::{AllocError, AllocFailed, Global};
+use std::alloc::{AllocError, Global};
 use std::fmt;
 use wit_data::{PackageName, SourceMap, Span, Text};
 use wit_shape::ShapeFault;
@@ -20,8 +19,10 @@ pub enum NameFault {
     NoType,
     /// Nothing has it.
     NoName,
-    /// The type `float32` or `float64`, which has this name now.
-    FormerFloat(&'static str),
+    /// The former name of `f32`, which no type has.
+    Float32,
+    /// The former name of `f64`, which no type has.
+    Float64,
     /// An interface or a world that needs itself.
     ItemDependsOnItself,
     /// A type that needs itself.
@@ -79,8 +80,8 @@ pub enum RuleFault {
     MapKey,
     ConstructorResult,
     ConstructorOk,
-    /// The file is too long for its place among the positions.
-    TooLong,
+    /// A type whose part isn't there.
+    MissingPart,
 }
 
 /// What is wrong with files.
@@ -110,4 +111,72 @@ pub enum GroupFault {
         kind: GroupFaultKind,
     },
     OutOfMemory,
+}
+
+impl GroupFault {
+    /// The words, and below them the place with its line, marked, as `SourceMap::highlight_span` shows it; the words alone
+    /// where the place is unknown. The only error is want of memory.
+    pub fn render(&self, alloc: Global) -> Result<String, AllocError> {
+        match self {
+            GroupFault::Text {
+                source_map,
+                span,
+                kind,
+            } => {
+                let words = format!(in alloc; "{kind}")?;
+                let shown = source_map.highlight_span(alloc, *span, words.as_str())?;
+                Ok(shown.unwrap_or(words))
+            }
+            GroupFault::OutOfMemory => String::from_str(alloc, "out of memory"),
+        }
+    }
+}
+
+/// Why files aren't read, where in their source map: or want of memory.
+#[derive(Drop)]
+pub(crate) enum Fault {
+    At(Span, GroupFaultKind),
+    OutOfMemory,
+}
+
+impl Fault {
+    /// A rule that a thing at a place breaks.
+    pub fn rule(span: Span, rule: RuleFault) -> Fault {
+        Fault::At(span, GroupFaultKind::Rule(rule))
+    }
+
+    /// What is wrong with a name at a place, or want of memory for it.
+    pub fn name(alloc: Global, span: Span, fault: NameFault, name: &str) -> Fault {
+        match Text::try_from_str(alloc, name) {
+            Ok(name) => Fault::At(span, GroupFaultKind::Name(fault, name)),
+            Err(refused) => Fault::from(refused),
+        }
+    }
+
+    /// The fault of files, which it gives back.
+    pub fn of_files(self, source_map: SourceMap) -> GroupFault {
+        match self {
+            Fault::At(span, kind) => GroupFault::Text {
+                source_map,
+                span,
+                kind,
+            },
+            Fault::OutOfMemory => GroupFault::OutOfMemory,
+        }
+    }
+}
+
+impl From<AllocError> for Fault {
+    fn from(_refused: AllocError) -> Fault {
+        Fault::OutOfMemory
+    }
+}
+
+impl From<ReadFault> for Fault {
+    fn from(fault: ReadFault) -> Fault {
+        match fault {
+            ReadFault::At(span, kind) => Fault::At(span, GroupFaultKind::Syntax(kind)),
+            ReadFault::OutOfMemory => Fault::OutOfMemory,
+        }
+    }
 }

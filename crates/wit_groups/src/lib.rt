@@ -5,8 +5,28 @@
 //! becomes foreign dependencies.
 #![tactic(auto)]
 
+mod definitions;
+mod draft;
 mod fault;
+mod fault_text;
+mod foreign;
+mod functions;
+mod gates;
+mod groups;
+mod interfaces;
+mod mentions;
+mod names;
+mod order;
+mod package_names;
+mod packages;
+mod scope;
+mod sources;
+mod types;
+mod unnamed;
+mod worlds;
+mod written;
 
 pub use crate::fault::{
     EntrySide, EntrySort, GroupFault, GroupFaultKind, NameFault, RuleFault,
 };
+pub use crate::groups::{Groups, read_group, read_groups};
