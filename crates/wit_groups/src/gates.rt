@@ -1,0 +1,153 @@
+//! What stands before a statement: its gate, its documentation, its external id.
+
+use crate::fault::{Fault, GroupFaultKind, RuleFault};
+use std::alloc::{AllocError, Global};
+use wit_data::{Docs, Stability, Text, Version};
+use wit_text::syntax::{Attribute, AttributeKind, Gate, PackagePath, Piece};
+use wit_text::{Comments, ReadFaultKind};
+
+/// What most things may have.
+#[derive(Drop)]
+pub(crate) struct Common {
+    pub docs: Docs,
+    pub stability: Stability,
+    pub external_id: Option<Text>,
+}
+
+/// What stands before a thing of a file with this text.
+pub(crate) fn common(
+    alloc: Global,
+    source: &str,
+    gate: &Gate,
+    may_have_id: bool,
+) -> Result<Common, Fault> {
+    check_attributes(gate, may_have_id)?;
+    let stability = stability(alloc, source, gate)?;
+    let docs = docs(alloc, source, gate.docs)?;
+    let external_id = external_id(alloc, source, gate)?;
+    Ok(Common {
+        docs,
+        stability,
+        external_id,
+    })
+}
+
+/// Whether the attributes of a statement go together.
+pub(crate) fn check_attributes(gate: &Gate, may_have_id: bool) -> Result<(), Fault> {
+    check_external_ids(gate, may_have_id)?;
+    check_gates(gate)
+}
+
+/// Whether there is at most one external id, and none where there may be none.
+fn check_external_ids(gate: &Gate, may_have_id: bool) -> Result<(), Fault> {
+    let mut last = None;
+    let mut are_too_many = false;
+    for attribute in gate.attributes.iter() {
+        if attribute.kind == AttributeKind::ExternalId {
+            are_too_many = !may_have_id || last.is_some();
+            last = Some(attribute.span);
+        }
+    }
+    match last {
+        Some(span) if are_too_many => Err(Fault::rule(span, RuleFault::MisplacedExternalId)),
+        _ => Ok(()),
+    }
+}
+
+/// Whether the attributes that aren't external ids are none, `since` or `unstable`, or one of these and `deprecated`.
+fn check_gates(gate: &Gate) -> Result<(), Fault> {
+    let mut gates = gate
+        .attributes
+        .iter()
+        .filter(|attribute| attribute.kind != AttributeKind::ExternalId);
+    let Some(first) = gates.next() else {
+        return Ok(());
+    };
+    let Some(second) = gates.next() else {
+        if first.kind == AttributeKind::Deprecated {
+            return Err(Fault::rule(first.span, RuleFault::DeprecatedAlone));
+        }
+        return Ok(());
+    };
+    if gates.next().is_none() && go_together(first.kind, second.kind) {
+        return Ok(());
+    }
+    Err(Fault::rule(second.span, RuleFault::UnsupportedAttributes))
+}
+
+/// Whether one of two attributes says since when a thing is deprecated, and the other doesn't.
+fn go_together(first: AttributeKind, second: AttributeKind) -> bool {
+    (first == AttributeKind::Deprecated) != (second == AttributeKind::Deprecated)
+}
+
+/// The gate of a statement. An `unstable` goes before a `since`.
+pub(crate) fn stability(alloc: Global, source: &str, gate: &Gate) -> Result<Stability, Fault> {
+    if let Some(feature) = value(gate, AttributeKind::Unstable) {
+        let deprecated = deprecated(alloc, source, gate)?;
+        let feature = Text::try_from_str(alloc, feature.text(source))?;
+        return Ok(Stability::Unstable {
+            feature,
+            deprecated,
+        });
+    }
+    match value(gate, AttributeKind::Since) {
+        Some(since) => {
+            let since = version(alloc, source, since)?;
+            let deprecated = deprecated(alloc, source, gate)?;
+            Ok(Stability::Stable { since, deprecated })
+        }
+        None => Ok(Stability::Unknown),
+    }
+}
+
+/// Since when a thing is deprecated.
+fn deprecated(alloc: Global, source: &str, gate: &Gate) -> Result<Option<Version>, Fault> {
+    match value(gate, AttributeKind::Deprecated) {
+        Some(piece) => Ok(Some(version(alloc, source, piece)?)),
+        None => Ok(None),
+    }
+}
+
+/// The external id of a thing.
+fn external_id(alloc: Global, source: &str, gate: &Gate) -> Result<Option<Text>, AllocError> {
+    match value(gate, AttributeKind::ExternalId) {
+        Some(piece) => Ok(Some(Text::try_from_str(alloc, piece.text(source))?)),
+        None => Ok(None),
+    }
+}
+
+/// What the first attribute of this kind says.
+fn value(gate: &Gate, kind: AttributeKind) -> Option<Piece> {
+    for attribute in gate.attributes.iter() {
+        if attribute.kind == kind {
+            return Some(attribute.value);
+        }
+    }
+    None
+}
+
+/// The version that a piece of a text is.
+pub(crate) fn version(alloc: Global, source: &str, piece: Piece) -> Result<Version, Fault> {
+    match Version::parse(alloc, piece.text(source)) {
+        Ok(version) => Ok(version),
+        Err(error) if error == semver::Error::from(AllocError) => Err(Fault::OutOfMemory),
+        Err(error) => {
+            let kind = GroupFaultKind::Syntax(ReadFaultKind::NoVersion(error));
+            Err(Fault::At(piece.span, kind))
+        }
+    }
+}
+
+/// The documentation in comments of a text.
+pub(crate) fn docs(
+    alloc: Global,
+    source: &str,
+    comments: Option<Comments>,
+) -> Result<Docs, AllocError> {
+    match comments {
+        Some(comments) => Ok(Docs {
+            contents: comments.docs(alloc, source)?,
+        }),
+        None => Ok(Docs::none()),
+    }
+}
