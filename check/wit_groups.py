@@ -5,14 +5,13 @@
 
 `tools/plain_rust` makes Rust of `wit_groups`, and cargo a program of it in FOLDER, which prints groups as JSON. The files are
 FILEs or those of examples/, texts of WIT by check/wit_writer.py, the same and those of examples/ changed in a few places, and
-folders of files. Of each group all is compared: each member of the JSON, or the fault with its words, its place and its line.
-A difference is printed, and the status is 1 then.
+folders of files. Of each group all is compared: each member of the JSON, or the fault with its words and its bytes. A
+difference is printed, and the status is 1 then.
 """
 import argparse
 import collections
 import json
 import pathlib
-import re
 import shutil
 import subprocess
 import sys
@@ -48,25 +47,20 @@ def program(out):
 
 
 def wanted(files):
-    """What the model says of files: a group as JSON, or the first fault."""
+    """What the model says of files: a group as JSON, or the first fault with its bytes."""
     report = wit.Report()
-    group = wit.group_in([wit.File(path, text) for path, text in sorted(files.items())], "p", report)
+    read = [wit.File(path, text) for path, text in sorted(files.items())]
+    group = wit.group_in(read, "p", report)
     if group:
-        made = wit2json.group_of(group)
-        return json.loads(json.dumps(made))
-    return shown(report.problems[0])
-
-
-def shown(fault):
-    """A fault as it is shown, whose columns count characters here."""
-    return fault.shown() if fault.span else str(fault)
+        return json.loads(json.dumps(wit2json.group_of(group)))
+    fault = report.problems[0]
+    span = wit.Places(read).span(fault.file, fault.span) if fault.span else None
+    return f"fault {span[0]}-{span[1]} {fault}" if span else f"fault - {fault}"
 
 
 def found(line):
     """What the program tells: a group as JSON, or a fault."""
-    if not line.startswith("fault "):
-        return json.loads(line)
-    return re.sub(r"\\(.)", lambda it: "\n" if it[1] == "n" else it[1], line.removeprefix("fault "))
+    return line if line.startswith("fault ") else json.loads(line)
 
 
 def groups(asked):
@@ -121,7 +115,7 @@ def main():
     counts, differences = collections.Counter(), 0
     for (name, files), line in zip(named, told.stdout.decode().split("\n"), strict=False):
         here, there = found(line), wanted(files)
-        counts["read" if isinstance(here, dict) else here.split("\n")[0].split("`")[0]] += 1
+        counts["read" if isinstance(here, dict) else " ".join(here.split("`")[0].split()[2:])] += 1
         differ = first_difference(here, there)
         if differ:
             differences += 1

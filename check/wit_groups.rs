@@ -35,10 +35,6 @@ fn files(input: &mut impl BufRead) -> Option<SourceMap> {
     Some(map)
 }
 
-fn in_one_line(text: &str) -> String {
-    text.replace('\\', "\\\\").replace('\n', "\\n")
-}
-
 fn main() {
     let stdin = std::io::stdin();
     let mut input = stdin.lock();
@@ -46,7 +42,10 @@ fn main() {
     while let Some(map) = files(&mut input) {
         match read_group(map) {
             Ok(group) => writeln!(output, "{}", group_to_json(&group).expect("memory")),
-            Err(fault) => writeln!(output, "fault {}", in_one_line(fault.render().expect("memory").as_str())),
+            Err(GroupFault::Text { span, kind, .. }) if span.is_known() => {
+                writeln!(output, "fault {}-{} {kind}", span.start(), span.end())
+            }
+            Err(fault) => writeln!(output, "fault - {fault}"),
         }
         .expect("output");
     }
