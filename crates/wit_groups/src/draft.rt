@@ -123,7 +123,6 @@ impl Draft {
     /// The package of this name, with what was made.
     pub fn into_package(self, name: PackageName, span: Span, docs: Docs) -> UnresolvedPackage {
         let Draft {
-            alloc: _,
             worlds,
             interfaces,
             names,
@@ -134,6 +133,7 @@ impl Draft {
             foreign_dep_spans,
             unknown_type_spans,
             required_resource_types,
+            ..
         } = self;
         drop(names);
         drop(roots);
@@ -158,7 +158,6 @@ impl Draft {
 impl Drop for Draft {
     fn drop(self) {
         let Draft {
-            alloc: _,
             worlds,
             interfaces,
             names,
@@ -169,6 +168,7 @@ impl Drop for Draft {
             foreign_dep_spans,
             unknown_type_spans,
             required_resource_types,
+            ..
         } = self;
         drop(worlds);
         drop(interfaces);

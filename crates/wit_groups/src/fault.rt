@@ -132,6 +132,12 @@ impl GroupFault {
     }
 }
 
+impl From<AllocError> for GroupFault {
+    fn from(_refused: AllocError) -> GroupFault {
+        GroupFault::OutOfMemory
+    }
+}
+
 /// Why files aren't read, where in their source map: or want of memory.
 #[derive(Drop)]
 pub(crate) enum Fault {
