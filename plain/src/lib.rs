@@ -80,6 +80,7 @@ pub mod programs;
 
 pub use crate::face::Resolve;
 pub use crate::face::json;
+pub use crate::face::{FileError, PackageSources};
 pub use crate::face::{print_graph, print_package};
 pub use crate::made::wit_core_names::{
     FutureIntrinsic, ResourceIntrinsic, StreamIntrinsic, WasmExport, WasmExportKind, WasmImport,

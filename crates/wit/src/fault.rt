@@ -12,6 +12,8 @@ pub enum PathFaultKind {
     Forbidden,
     Unreadable,
     NotUtf8,
+    /// It is a component, and not WIT text.
+    Binary,
     /// The files end past position 4294967295.
     TooLong,
 }
@@ -23,6 +25,7 @@ impl fmt::Display for PathFaultKind {
             PathFaultKind::Forbidden => "reading it is not allowed",
             PathFaultKind::Unreadable => "it can't be read",
             PathFaultKind::NotUtf8 => "it isn't UTF-8",
+            PathFaultKind::Binary => "it is no WIT text: write it as a .wit file",
             PathFaultKind::TooLong => "source positions would pass 4294967295",
         })
     }

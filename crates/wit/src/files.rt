@@ -39,7 +39,7 @@ fn only(alloc: Global, main: SourceMap) -> Result<Sources, PathFault> {
     Ok(Sources { main, deps })
 }
 
-fn is_folder(rt: &HostRuntime, path: &str) -> Result<bool, PathFault> {
+pub fn is_folder(rt: &HostRuntime, path: &str) -> Result<bool, PathFault> {
     match fs::metadata(rt, path) {
         Ok(metadata) => Ok(metadata.is_dir()),
         Err(error) => Err(PathFault::of_error(rt.alloc(), path, &error)),
@@ -60,7 +60,7 @@ fn read_input(rt: &HostRuntime) -> Result<SourceMap, PathFault> {
 }
 
 /// A file alone.
-fn read_file(rt: &HostRuntime, path: &str) -> Result<SourceMap, PathFault> {
+pub fn read_file(rt: &HostRuntime, path: &str) -> Result<SourceMap, PathFault> {
     let mut map = SourceMap::new(rt.alloc());
     add_file_at(rt, &mut map, path)?;
     Ok(map)
@@ -69,7 +69,7 @@ fn read_file(rt: &HostRuntime, path: &str) -> Result<SourceMap, PathFault> {
 /// The files right in a folder that end with `.wit`, in the order of their names.
 ///
 /// Source: `parse_dir` of wit-parser 0.263.0.
-fn read_folder(rt: &HostRuntime, folder: &str) -> Result<SourceMap, PathFault> {
+pub fn read_folder(rt: &HostRuntime, folder: &str) -> Result<SourceMap, PathFault> {
     let mut map = SourceMap::new(rt.alloc());
     for name in &names_in(rt, folder)? {
         if name.as_str().ends_with(".wit") {
@@ -83,10 +83,11 @@ fn read_folder(rt: &HostRuntime, folder: &str) -> Result<SourceMap, PathFault> {
 }
 
 /// The files of each thing in the folder `deps` of a folder, in the order of their names: of a folder those right in it, of
-/// a file that ends with `.wit` this alone; others are left out. A folder without `deps` has none.
+/// a file that ends with `.wit` this alone. Other files are left out, but `.wasm` and `.wat`, which wit-parser reads, are
+/// refused. A folder without `deps` has none.
 ///
 /// Source: `parse_deps_dir` of wit-parser 0.263.0.
-fn read_deps(rt: &HostRuntime, folder: &str) -> Result<Items<SourceMap>, PathFault> {
+pub fn read_deps(rt: &HostRuntime, folder: &str) -> Result<Items<SourceMap>, PathFault> {
     let alloc = rt.alloc();
     let mut deps = Items::new(alloc);
     let folder = joined(alloc, folder, "deps")?;
@@ -99,9 +100,16 @@ fn read_deps(rt: &HostRuntime, folder: &str) -> Result<Items<SourceMap>, PathFau
             deps.push(read_folder(rt, path.as_str())?)?;
         } else if name.as_str().ends_with(".wit") {
             deps.push(read_file(rt, path.as_str())?)?;
+        } else if is_binary(name.as_str()) {
+            return Err(PathFault::at(alloc, path.as_str(), PathFaultKind::Binary));
         }
     }
     Ok(deps)
+}
+
+/// Whether a file of this name has a package as a component.
+fn is_binary(name: &str) -> bool {
+    name.ends_with(".wasm") || name.ends_with(".wat")
 }
 
 fn is_there(rt: &HostRuntime, path: &str) -> Result<bool, PathFault> {
