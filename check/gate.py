@@ -63,6 +63,7 @@ AFTER = {
     "statuses": "python3 check/statuses.py --witgraph {witgraph} --json {witgraph_json} --dot {witgraph_dot}",
     "pictures": "docs/pictures/make.sh --check {witgraph_dot}",
     "wasi": "WITGRAPH_JSON={witgraph_json} examples/wasi/check.sh {witgraph}",
+    "wit": "python3 check/wit_program.py {wit} --json {witgraph_json} --first {seed} --many 100",
     "wit2json": "WITGRAPH_JSON={witgraph_json} python3 tools/test_wit2json.py",
     "whole-graphs": "python3 check/whole/test_graphs.py {witgraph_json}",
     "ways": "python3 check/ways.py {test_explanations} --json {witgraph_json}",
