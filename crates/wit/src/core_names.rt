@@ -1,4 +1,7 @@
 //! The names in core wasm of the functions of a world.
+ghost use Rattle.std.specs.Prelude.{◌≡◌, ◌++◌, IfOk, OnOk, flat_map, string_bytes};
+ghost use Rattle.wit.specs.CoreNames.{core_names_text, entry_functions, export_line, functions_at, import_line};
+ghost use Rattle.wit.specs.steps.Placed.{placed_function, placed_functions};
 
 use std::alloc::{AllocError, Global};
 use wit_resolve_graph::{
@@ -12,7 +15,10 @@ pub fn core_names_text(
     resolve: &Resolve,
     id: WorldId,
     mangling: ManglingAndAbi,
-) -> ResolveResult<String> {
+) -> ResolveResult<String>
+    ensures { IfOk result
+        (λ text. string_bytes text ≡ core_names_text resolve.now.graph mangling id) }
+{
     let mut text = String::new(alloc);
     let Some(world) = resolve.worlds().get(id.index()) else {
         return Ok(text);
@@ -38,7 +44,10 @@ fn functions_of<'a>(
     alloc: Global,
     resolve: &'a Resolve,
     entries: &'a Table<WorldKey, WorldItem>,
-) -> Result<Vec<Placed<'a>>, AllocError> {
+) -> Result<Vec<Placed<'a>>, AllocError>
+    ensures { IfOk result (λ placed. placed_functions placed.items
+        ≡ flat_map (entry_functions resolve.now.graph) entries.now) }
+{
     let mut placed = Vec::new(alloc);
     for (key, item) in entries.iter() {
         add_functions(resolve, key, item, &mut placed)?;
@@ -52,7 +61,11 @@ fn add_functions<'a>(
     key: &'a WorldKey,
     item: &'a WorldItem,
     placed: &mut Vec<Placed<'a>>,
-) -> Result<(), AllocError> {
+) -> Result<(), AllocError>
+    ensures { OnOk result (placed_functions placed.new.items
+        ≡ placed_functions placed.old.items
+        ++ entry_functions resolve.now.graph (key.now, item.now)) }
+{
     match item {
         WorldItem::Function(function) => placed.push(Placed {
             interface: None,
@@ -70,7 +83,10 @@ fn add_interface<'a>(
     key: &'a WorldKey,
     id: InterfaceId,
     placed: &mut Vec<Placed<'a>>,
-) -> Result<(), AllocError> {
+) -> Result<(), AllocError>
+    ensures { OnOk result (placed_functions placed.new.items
+        ≡ placed_functions placed.old.items ++ functions_at resolve.now.graph key.now id) }
+{
     let Some(interface) = resolve.interfaces().get(id.index()) else {
         return Ok(());
     };
@@ -90,7 +106,10 @@ fn add_import(
     mangling: ManglingAndAbi,
     placed: &Placed<'_>,
     text: &mut String,
-) -> ResolveResult<()> {
+) -> ResolveResult<()>
+    ensures { OnOk result (string_bytes text.new ≡ string_bytes text.old
+        ++ import_line resolve.now.graph mangling (placed_function placed.now)) }
+{
     let import = WasmImport::Func {
         interface: placed.interface,
         func: placed.function,
@@ -110,7 +129,10 @@ fn add_export(
     mangling: ManglingAndAbi,
     placed: &Placed<'_>,
     text: &mut String,
-) -> ResolveResult<()> {
+) -> ResolveResult<()>
+    ensures { OnOk result (string_bytes text.new ≡ string_bytes text.old
+        ++ export_line resolve.now.graph mangling (placed_function placed.now)) }
+{
     let export = WasmExport::Func {
         interface: placed.interface,
         func: placed.function,

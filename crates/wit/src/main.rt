@@ -1,18 +1,21 @@
 //! Reads WIT, and prints what a world imports, or the graph as JSON or WIT.
+//!
+//! What is read, what becomes of it and what is printed is `answer_to`'s contract; the files themselves no contract sees.
 #![tactic(auto)]
 
+mod answer;
 mod core_names;
 mod fault;
 mod files;
 mod linked;
 mod pretty;
-mod printing;
 mod refusal;
+mod tasks;
 mod turns;
 
+use crate::answer::answer_to;
 use crate::fault::PathFault;
 use crate::files::{Sources, read_path};
-use crate::linked::Linked;
 use crate::refusal::Refusal;
 use std::alloc::{AllocError, Global};
 use std::env;
@@ -27,7 +30,7 @@ use wit_streams::Watched;
 /// The version of this program.
 const VERSION: &str = "0.1.0";
 
-/// What is read of each path. Nothing is where one isn't read.
+/// What is read of each path; nothing if one isn't read.
 fn read_each(rt: &HostRuntime, paths: &Items<Text>) -> Result<Items<Sources>, PathFault> {
     let mut all = Items::new(rt.alloc());
     for path in paths.iter() {
@@ -36,19 +39,8 @@ fn read_each(rt: &HostRuntime, paths: &Items<Text>) -> Result<Items<Sources>, Pa
     Ok(all)
 }
 
-/// What options ask for of what was read.
-fn answer_to(
-    alloc: Global,
-    options: &Options,
-    sources: Items<Sources>,
-    merges: Items<Sources>,
-) -> Result<String, Refusal> {
-    let linked = Linked::by(alloc, options, sources, merges)?;
-    linked.answer(alloc, options)
-}
-
 /// What comes of options.
-fn work(rt: &HostRuntime, options: &Options) -> Result<Outcome, AllocError> {
+fn work(rt: &HostRuntime, options: Options) -> Result<Outcome, AllocError> {
     let alloc = rt.alloc();
     let sources = match read_each(rt, &options.paths) {
         Ok(sources) => sources,
@@ -59,9 +51,19 @@ fn work(rt: &HostRuntime, options: &Options) -> Result<Outcome, AllocError> {
         Err(fault) => return unread(alloc, &fault),
     };
     match answer_to(alloc, options, sources, merges) {
-        Ok(text) => Ok(Outcome::Done(text)),
-        Err(Refusal::Told(text)) => Ok(Outcome::Refused(format!(in alloc; "wit: {text}\n")?)),
-        Err(Refusal::OutOfMemory) => Err(AllocError),
+        Ok(text) => Ok(Outcome::Done(Text::from_string(text))),
+        Err(refusal) => refused(alloc, &refusal),
+    }
+}
+
+/// What comes of a refusal.
+fn refused(alloc: Global, refusal: &Refusal) -> Result<Outcome, AllocError> {
+    match refusal {
+        Refusal::Told(text) => {
+            let told = format!(in alloc; "wit: {text}\n")?;
+            Ok(Outcome::Refused(Text::from_string(told)))
+        }
+        Refusal::OutOfMemory => Err(AllocError),
     }
 }
 
@@ -69,13 +71,28 @@ fn work(rt: &HostRuntime, options: &Options) -> Result<Outcome, AllocError> {
 fn unread(alloc: Global, fault: &PathFault) -> Result<Outcome, AllocError> {
     match fault {
         PathFault::OutOfMemory => Err(AllocError),
-        fault => Ok(Outcome::Refused(format!(in alloc; "wit: {fault}\n")?)),
+        fault => {
+            let told = format!(in alloc; "wit: {fault}\n")?;
+            Ok(Outcome::Refused(Text::from_string(told)))
+        }
     }
 }
 
 /// What comes of arguments that aren't understood.
 fn misused(alloc: Global, fault: &UsageFault) -> Result<Outcome, AllocError> {
-    Ok(Outcome::Usage(format!(in alloc; "wit: {fault}\n{HINT}\n")?))
+    let told = format!(in alloc; "wit: {fault}\n{HINT}\n")?;
+    Ok(Outcome::Usage(Text::from_string(told)))
+}
+
+/// What comes of arguments that can't be read.
+fn unread_words(alloc: Global, error: &io::Error) -> Result<Outcome, AllocError> {
+    match error.kind() {
+        io::ErrorKind::OutOfMemory => Err(AllocError),
+        _ => {
+            let told = format!(in alloc; "wit: an argument isn't UTF-8\n{HINT}\n")?;
+            Ok(Outcome::Usage(Text::from_string(told)))
+        }
+    }
 }
 
 /// The words behind the program's name.
@@ -87,14 +104,6 @@ fn words(rt: &HostRuntime) -> io::Result<Vec<String>> {
     Ok(words)
 }
 
-/// What comes of arguments that can't be read.
-fn unread_words(alloc: Global, error: &io::Error) -> Result<Outcome, AllocError> {
-    match error.kind() {
-        io::ErrorKind::OutOfMemory => Err(AllocError),
-        _ => Ok(Outcome::Usage(format!(in alloc; "wit: an argument isn't UTF-8\n{HINT}\n")?)),
-    }
-}
-
 /// What comes of a call of the program.
 fn outcome(rt: &HostRuntime) -> Result<Outcome, AllocError> {
     let alloc = rt.alloc();
@@ -103,9 +112,12 @@ fn outcome(rt: &HostRuntime) -> Result<Outcome, AllocError> {
         Err(error) => return unread_words(alloc, &error),
     };
     match asked_by(alloc, &words)? {
-        Asked::Work(options) => work(rt, &options),
-        Asked::Help => Ok(Outcome::Done(format!(in alloc; "{USAGE}\n")?)),
-        Asked::Version => Ok(Outcome::Done(format!(in alloc; "wit {VERSION}\n")?)),
+        Asked::Work(options) => work(rt, options),
+        Asked::Help => Ok(Outcome::Done(Text::from_string(format!(in alloc; "{USAGE}\n")?))),
+        Asked::Version => {
+            let version = format!(in alloc; "wit {VERSION}\n")?;
+            Ok(Outcome::Done(Text::from_string(version)))
+        }
         Asked::Fault(fault) => misused(alloc, &fault),
     }
 }

@@ -5,17 +5,18 @@ ghost use Rattle.wit_options.specs.Outcome.{IsTold, answer_of, complaint_of, fai
 
 use std::alloc::AllocError;
 use std::io::Write;
+use wit_data::Text;
 use wit_streams::{Watched, write_all};
 
 /// What comes of a call.
 #[derive(Drop)]
 pub enum Outcome {
     /// It is done: this goes to standard output.
-    Done(String),
+    Done(Text),
     /// It is refused, or something can't be read: why goes to standard error.
-    Refused(String),
+    Refused(Text),
     /// It isn't understood: why, and how the program is called, goes to standard error.
-    Usage(String),
+    Usage(Text),
     /// There isn't enough memory.
     OutOfMemory,
 }
