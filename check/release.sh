@@ -37,7 +37,7 @@ there=$(ls -d "$work"/witgraph-*)
 version=$(cat VERSION)
 cd "$work"
 
-for program in witgraph witgraph_json witgraph_dot; do
+for program in wit witgraph witgraph_json witgraph_dot; do
     crate=$top/crates/$program
     env -i "$there/bin/$program" < "$crate/stdin" | cmp - "$crate/stdout" || fails "$program writes something else"
 done

@@ -23,8 +23,8 @@
 //! # Ok::<(), ResolveError>(())
 //! ```
 //!
-//! It reads no WIT text. Packages come from a parser, as the crate `wit-resolve-graph-parser` hands them over from
-//! wit-parser, from [JSON](json), or are built.
+//! [`Resolve::push_path`] and its kin read WIT text. Packages may also come from wit-parser, as the crate
+//! `wit-resolve-graph-parser` hands them over, from [JSON](json), or be built.
 //!
 //! # What is promised
 //!
