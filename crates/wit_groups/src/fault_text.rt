@@ -61,8 +61,10 @@ fn behind_name(fault: NameFault) -> &'static str {
         NameFault::DuplicateItem | NameFault::FunctionTwice | NameFault::UsedFunction => "",
         NameFault::DuplicateInFile => " in this file",
         NameFault::NoItem | NameFault::NoType | NameFault::NoName => " does not exist",
-        NameFault::Float32 => " does not exist: the `float32` type has been renamed to `f32` and is no longer accepted",
-        NameFault::Float64 => " does not exist: the `float64` type has been renamed to `f64` and is no longer accepted",
+        NameFault::Float32 =>
+            " does not exist: the `float32` type has been renamed to `f32` and is no longer accepted",
+        NameFault::Float64 =>
+            " does not exist: the `float64` type has been renamed to `f64` and is no longer accepted",
         NameFault::ItemDependsOnItself | NameFault::TypeDependsOnItself => " depends on itself",
         NameFault::NotAnInterface => " is defined as a world, not an interface",
         NameFault::NotAWorld => " is defined as an interface, not a world",
@@ -87,9 +89,7 @@ fn rule_text(rule: RuleFault) -> &'static str {
         RuleFault::DeprecatedAlone => "must pair @deprecated with either @since or @unstable",
         RuleFault::UnsupportedAttributes => "unsupported combination of attributes",
         RuleFault::MisplacedExternalId => "`@external-id` not allowed here",
-        RuleFault::NoPackage => {
-            "no `package` header was found in any WIT file for this package"
-        }
+        RuleFault::NoPackage => { "no `package` header was found in any WIT file for this package" }
         RuleFault::NestedTooDeep => "nested packages must be placed at the top-level",
         RuleFault::SecondDocs => "found doc comments on multiple 'package' items",
         RuleFault::SecondConstructor => "duplicate constructors",

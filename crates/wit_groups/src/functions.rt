@@ -202,7 +202,8 @@ impl<'a> Context<'a> {
         };
         match &node.kind {
             TypeNodeKind::Result_ {
-                ok: Some(index), ..
+                ok: Some(index),
+                ..
             } => match self.part.types.get(*index) {
                 Some(part) => part.span,
                 None => node.span,

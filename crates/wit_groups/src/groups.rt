@@ -158,7 +158,11 @@ impl<'a> Reading<'a> {
             Some(head) => head.docs,
             None => Docs::none(),
         };
-        let docs = if known.contents.is_some() { known } else { docs };
+        let docs = if known.contents.is_some() {
+            known
+        } else {
+            docs
+        };
         self.head = Some(PackageHead { name, span, docs });
     }
 
@@ -181,10 +185,7 @@ impl<'a> Reading<'a> {
 }
 
 /// What files say of their package.
-fn parts_of<'a>(
-    alloc: Global,
-    files: &'a [FileRead<'a>],
-) -> Result<Items<Part<'a>>, AllocError> {
+fn parts_of<'a>(alloc: Global, files: &'a [FileRead<'a>]) -> Result<Items<Part<'a>>, AllocError> {
     let mut parts = Items::new(alloc);
     for read in files {
         parts.push(Part {

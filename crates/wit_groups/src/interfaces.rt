@@ -6,9 +6,7 @@ use crate::gates::{check_attributes, docs, stability};
 use crate::scope::{Context, ScopeDraft};
 use crate::written::{Body, type_statements};
 use std::alloc::{AllocError, Global};
-use wit_data::{
-    Docs, Function, Interface, InterfaceId, Names, Stability, Text, TypeId, TypeOwner,
-};
+use wit_data::{Docs, Function, Interface, InterfaceId, Names, Stability, Text, TypeId, TypeOwner};
 use wit_text::syntax::{
     DefinitionKind, Gate, InterfaceStatement, InterfaceStatementKind, Piece, ResourceFunction,
 };

@@ -26,7 +26,5 @@ mod unnamed;
 mod worlds;
 mod written;
 
-pub use crate::fault::{
-    EntrySide, EntrySort, GroupFault, GroupFaultKind, NameFault, RuleFault,
-};
+pub use crate::fault::{EntrySide, EntrySort, GroupFault, GroupFaultKind, NameFault, RuleFault};
 pub use crate::groups::{Groups, read_group, read_groups};

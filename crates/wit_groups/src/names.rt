@@ -251,10 +251,7 @@ fn needed_paths(alloc: Global, body: Body<'_>) -> Result<Items<Path>, AllocError
     }
 }
 
-fn used_paths(
-    alloc: Global,
-    statements: &[InterfaceStatement],
-) -> Result<Items<Path>, AllocError> {
+fn used_paths(alloc: Global, statements: &[InterfaceStatement]) -> Result<Items<Path>, AllocError> {
     let mut paths = Items::new(alloc);
     for statement in statements {
         if let InterfaceStatementKind::Use(used) = &statement.kind {
@@ -264,10 +261,7 @@ fn used_paths(
     Ok(paths)
 }
 
-fn included_paths(
-    alloc: Global,
-    statements: &[WorldStatement],
-) -> Result<Items<Path>, AllocError> {
+fn included_paths(alloc: Global, statements: &[WorldStatement]) -> Result<Items<Path>, AllocError> {
     let mut paths = Items::new(alloc);
     for statement in statements {
         if let WorldStatementKind::Include(include) = &statement.kind {

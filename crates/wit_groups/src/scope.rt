@@ -78,7 +78,8 @@ impl<'a> ScopeDraft<'a> {
         if self.names.contains_key(text) {
             return Err(self.context.name_fault(name, NameFault::DefinedTwice));
         }
-        self.names.push(String::from_str(self.context.alloc, text)?, named)?;
+        self.names
+            .push(String::from_str(self.context.alloc, text)?, named)?;
         Ok(())
     }
 
