@@ -219,18 +219,19 @@ fn resource_function_name(
     resource: Piece,
     name: ResourceFunctionName,
 ) -> Result<Text, AllocError> {
+    let alloc = context.alloc;
     let resource = context.text(resource);
     let text = match name {
         ResourceFunctionName::Constructor(_) => {
-            format!(in context.alloc; "[constructor]{resource}")?
+            format!(in alloc; "[constructor]{resource}")?
         }
         ResourceFunctionName::Method(name) => {
             let name = context.text(name);
-            format!(in context.alloc; "[method]{resource}.{name}")?
+            format!(in alloc; "[method]{resource}.{name}")?
         }
         ResourceFunctionName::Static(name) => {
             let name = context.text(name);
-            format!(in context.alloc; "[static]{resource}.{name}")?
+            format!(in alloc; "[static]{resource}.{name}")?
         }
     };
     Ok(Text::from_string(text))

@@ -21,6 +21,7 @@ mod package_names;
 mod packages;
 mod scope;
 mod sources;
+mod tables;
 mod types;
 mod unnamed;
 mod worlds;
