@@ -1,9 +1,13 @@
 //! What faults say: the words of wit-parser.
+ghost use Rattle.std.specs.Prelude.{◌≡◌};
+ghost use Rattle.wit_groups.specs.Words.{before_name, behind_name, kind_text, rule_text, unread_text};
 
 use crate::fault::{EntrySide, EntrySort, GroupFault, GroupFaultKind, NameFault, RuleFault};
 use std::fmt;
 
 impl fmt::Display for GroupFault {
+    ghost output = { unread_text };
+
     fn fmt<W: fmt::Write>(&self, f: &mut fmt::Formatter<W>) -> fmt::Result {
         match self {
             GroupFault::Text { kind, .. } => write!(f, "{kind}"),
@@ -13,6 +17,8 @@ impl fmt::Display for GroupFault {
 }
 
 impl fmt::Display for GroupFaultKind {
+    ghost output = { kind_text };
+
     fn fmt<W: fmt::Write>(&self, f: &mut fmt::Formatter<W>) -> fmt::Result {
         match self {
             GroupFaultKind::Syntax(kind) => write!(f, "{kind}"),
@@ -31,7 +37,9 @@ impl fmt::Display for GroupFaultKind {
 }
 
 /// What stands before a name.
-fn before_name(fault: NameFault) -> &'static str {
+fn before_name(fault: NameFault) -> &'static str
+    ensures { result.now ≡ before_name fault }
+{
     match fault {
         NameFault::DuplicateItem => "duplicate item named ",
         NameFault::DuplicateInFile => "duplicate name ",
@@ -56,7 +64,9 @@ fn before_name(fault: NameFault) -> &'static str {
 }
 
 /// What stands behind a name.
-fn behind_name(fault: NameFault) -> &'static str {
+fn behind_name(fault: NameFault) -> &'static str
+    ensures { result.now ≡ behind_name fault }
+{
     match fault {
         NameFault::DuplicateItem | NameFault::FunctionTwice | NameFault::UsedFunction => "",
         NameFault::DuplicateInFile => " in this file",
@@ -83,7 +93,9 @@ fn behind_name(fault: NameFault) -> &'static str {
 }
 
 /// What is told of a rule that isn't kept.
-fn rule_text(rule: RuleFault) -> &'static str {
+fn rule_text(rule: RuleFault) -> &'static str
+    ensures { result.now ≡ rule_text rule }
+{
     match rule {
         RuleFault::AttributesOnUse => "attributes not allowed on top-level use",
         RuleFault::DeprecatedAlone => "must pair @deprecated with either @since or @unstable",

@@ -222,9 +222,7 @@ fn resource_function_name(
     let alloc = context.alloc;
     let resource = context.text(resource);
     let text = match name {
-        ResourceFunctionName::Constructor(_) => {
-            format!(in alloc; "[constructor]{resource}")?
-        }
+        ResourceFunctionName::Constructor(_) => { format!(in alloc; "[constructor]{resource}")? }
         ResourceFunctionName::Method(name) => {
             let name = context.text(name);
             format!(in alloc; "[method]{resource}.{name}")?
