@@ -15,6 +15,7 @@ LIBRARIES = (
     "wit_json",
     "wit_json_reading",
     "wit_json_commands",
+    "wit_groups",
     "wit_print",
     "wit_groups",
     "witgraph_calls",

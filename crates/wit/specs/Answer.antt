@@ -6,10 +6,10 @@ use Rattle.wit.specs.CoreNames.{core_names_text}
 use Rattle.wit.specs.Tasks.{AreShaped, DoesAll, imports_at, mains, tasks_of, unlinked}
 use Rattle.wit.specs.declared.files.Sources.{Sources}
 use Rattle.wit.specs.declared.linked.Linked.{Linked}
-use Rattle.wit_data.specs.declared.unresolved.UnresolvedPackageGroup.{UnresolvedPackageGroup}
 use Rattle.wit_elaboration.specs.Entries.{Entry}
 use Rattle.wit_graph_data.specs.IdText.{key_text}
 use Rattle.wit_graph_data.specs.declared.graph.Graph.{Graph}
+use Rattle.wit_groups.specs.Files.{source_map_of}
 use Rattle.wit_groups.specs.declared.groups.Groups.{Groups}
 use Rattle.wit_json.specs.Graph.{compact, json_of_graph}
 use Rattle.wit_options.specs.declared.options.Options.{Options}
@@ -17,17 +17,13 @@ use Rattle.wit_options.specs.declared.options.Output.{Output}
 use Rattle.wit_options.specs.declared.options.Output.TheVariants as output
 use Rattle.wit_print.specs.Packages.{graph_wit}
 use Rattle.wit_queries.specs.Selection.{selected_world}
-use Rattle.wit_sources.specs.SourceMap.{Sources as SourceFiles}
 
 -- ---- what is read
-
-abbrev pub files_of : UnresolvedPackageGroup → SourceFiles
-files_of group = group.source_map
 
 -- groups that are read of files: each has its shape and its files
 pub record IsRead (files : Sources) (groups : Groups) : Type 0 where
   pub main : groups.main.source_map ≡ files.main
-  pub deps : map files_of groups.deps ≡ files.deps
+  pub deps : map source_map_of groups.deps ≡ files.deps
   pub shaped : AreShaped groups
 
 abbrev pub AllRead : List Sources → List Groups → Type 0

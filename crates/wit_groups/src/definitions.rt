@@ -8,11 +8,11 @@ use crate::scope::{Context, ScopeDraft};
 use crate::written::TypeStatement;
 use std::alloc::AllocError;
 use wit_data::{Items, Names, Stability, TypeDef, TypeDefKind};
-use wit_values::NameSet;
 use wit_text::syntax::{
     Definition, DefinitionKind, Gate, Member, Piece, ResourceFunction, ResourceFunctionName,
     TypeNodeKind, TypeRange, UseNames,
 };
+use wit_values::NameSet;
 
 /// The names of types of an interface or a world, each with a number.
 #[derive(Drop)]
@@ -131,14 +131,16 @@ fn cycle(context: &Context<'_>, names: &TypeNames, need: Need) -> Fault {
         Some(piece) => context.text(*piece),
         None => "",
     };
-    Fault::name(context.alloc, need.span, NameFault::TypeDependsOnItself, name)
+    Fault::name(
+        context.alloc,
+        need.span,
+        NameFault::TypeDependsOnItself,
+        name,
+    )
 }
 
 /// The names of types in statements.
-fn type_names(
-    context: &Context<'_>,
-    statements: &[TypeStatement<'_>],
-) -> Result<TypeNames, Fault> {
+fn type_names(context: &Context<'_>, statements: &[TypeStatement<'_>]) -> Result<TypeNames, Fault> {
     let mut names = TypeNames {
         numbers: Names::new(context.alloc),
         definitions: Items::new(context.alloc),

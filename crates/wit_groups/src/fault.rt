@@ -1,4 +1,5 @@
 //! Why files aren't read as a group of packages.
+ghost use Rattle.wit_groups.specs.Files.{HasFiles};
 
 use std::alloc::{AllocError, Global};
 use std::fmt;
@@ -133,6 +134,11 @@ impl GroupFault {
 }
 
 impl From<AllocError> for GroupFault {
+    ghost use Rattle.std.specs.Prelude.{◌≡◌};
+    ghost use Rattle.wit_groups.specs.declared.fault.GroupFault.TheVariants.{OutOfMemory};
+
+    ghost from_gives = { λ _ fault. fault ≡ OutOfMemory };
+
     fn from(_refused: AllocError) -> GroupFault {
         GroupFault::OutOfMemory
     }
@@ -160,7 +166,9 @@ impl Fault {
     }
 
     /// The fault of files, which it gives back.
-    pub fn of_files(self, source_map: SourceMap) -> GroupFault {
+    pub fn of_files(self, source_map: SourceMap) -> GroupFault
+        ensures { HasFiles source_map result }
+    {
         match self {
             Fault::At(span, kind) => GroupFault::Text {
                 source_map,
@@ -173,6 +181,11 @@ impl Fault {
 }
 
 impl From<AllocError> for Fault {
+    ghost use Rattle.std.specs.Prelude.{◌≡◌};
+    ghost use Rattle.wit_groups.specs.declared.fault.Fault.TheVariants.{OutOfMemory};
+
+    ghost from_gives = { λ _ fault. fault ≡ OutOfMemory };
+
     fn from(_refused: AllocError) -> Fault {
         Fault::OutOfMemory
     }

@@ -1,9 +1,13 @@
 //! What faults say: the words of wit-parser.
+ghost use Rattle.std.specs.Prelude.{◌≡◌};
+ghost use Rattle.wit_groups.specs.Words.{before_name, behind_name, kind_text, rule_text, unread_text};
 
 use crate::fault::{EntrySide, EntrySort, GroupFault, GroupFaultKind, NameFault, RuleFault};
 use std::fmt;
 
 impl fmt::Display for GroupFault {
+    ghost output = { unread_text };
+
     fn fmt<W: fmt::Write>(&self, f: &mut fmt::Formatter<W>) -> fmt::Result {
         match self {
             GroupFault::Text { kind, .. } => write!(f, "{kind}"),
@@ -13,6 +17,8 @@ impl fmt::Display for GroupFault {
 }
 
 impl fmt::Display for GroupFaultKind {
+    ghost output = { kind_text };
+
     fn fmt<W: fmt::Write>(&self, f: &mut fmt::Formatter<W>) -> fmt::Result {
         match self {
             GroupFaultKind::Syntax(kind) => write!(f, "{kind}"),
@@ -31,7 +37,9 @@ impl fmt::Display for GroupFaultKind {
 }
 
 /// What stands before a name.
-fn before_name(fault: NameFault) -> &'static str {
+fn before_name(fault: NameFault) -> &'static str
+    ensures { result.now ≡ before_name fault }
+{
     match fault {
         NameFault::DuplicateItem => "duplicate item named ",
         NameFault::DuplicateInFile => "duplicate name ",
@@ -56,13 +64,17 @@ fn before_name(fault: NameFault) -> &'static str {
 }
 
 /// What stands behind a name.
-fn behind_name(fault: NameFault) -> &'static str {
+fn behind_name(fault: NameFault) -> &'static str
+    ensures { result.now ≡ behind_name fault }
+{
     match fault {
         NameFault::DuplicateItem | NameFault::FunctionTwice | NameFault::UsedFunction => "",
         NameFault::DuplicateInFile => " in this file",
         NameFault::NoItem | NameFault::NoType | NameFault::NoName => " does not exist",
-        NameFault::Float32 => " does not exist: the `float32` type has been renamed to `f32` and is no longer accepted",
-        NameFault::Float64 => " does not exist: the `float64` type has been renamed to `f64` and is no longer accepted",
+        NameFault::Float32 =>
+            " does not exist: the `float32` type has been renamed to `f32` and is no longer accepted",
+        NameFault::Float64 =>
+            " does not exist: the `float64` type has been renamed to `f64` and is no longer accepted",
         NameFault::ItemDependsOnItself | NameFault::TypeDependsOnItself => " depends on itself",
         NameFault::NotAnInterface => " is defined as a world, not an interface",
         NameFault::NotAWorld => " is defined as an interface, not a world",
@@ -81,15 +93,15 @@ fn behind_name(fault: NameFault) -> &'static str {
 }
 
 /// What is told of a rule that isn't kept.
-fn rule_text(rule: RuleFault) -> &'static str {
+fn rule_text(rule: RuleFault) -> &'static str
+    ensures { result.now ≡ rule_text rule }
+{
     match rule {
         RuleFault::AttributesOnUse => "attributes not allowed on top-level use",
         RuleFault::DeprecatedAlone => "must pair @deprecated with either @since or @unstable",
         RuleFault::UnsupportedAttributes => "unsupported combination of attributes",
         RuleFault::MisplacedExternalId => "`@external-id` not allowed here",
-        RuleFault::NoPackage => {
-            "no `package` header was found in any WIT file for this package"
-        }
+        RuleFault::NoPackage => { "no `package` header was found in any WIT file for this package" }
         RuleFault::NestedTooDeep => "nested packages must be placed at the top-level",
         RuleFault::SecondDocs => "found doc comments on multiple 'package' items",
         RuleFault::SecondConstructor => "duplicate constructors",

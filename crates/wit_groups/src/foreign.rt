@@ -6,6 +6,7 @@ use crate::gates::{check_attributes, stability};
 use crate::mentions::{Mention, MentionKind};
 use crate::names::Directory;
 use crate::package_names::{bare_span, package_name};
+use crate::tables::add_new;
 use std::alloc::AllocError;
 use wit_data::{
     AstItem, InterfaceId, Items, Names, PackageName, Stability, Text, TryClone, TypeDef,
@@ -84,7 +85,7 @@ impl Draft {
         gates.push(gate)?;
         let key = String::from_str(self.alloc, mention.path.name.text(mention.part.source))?;
         if place < self.foreign_deps.len() {
-            push_item(self.foreign_deps.value_at_mut(place), key, item, gates)?;
+            add_new(self.foreign_deps.value_at_mut(place), key, (item, gates))?;
         }
         Ok(())
     }
@@ -164,11 +165,11 @@ impl Draft {
         let key = String::from_str(self.alloc, name)?;
         let index = id.index();
         if index < self.names.len() {
-            push_name(self.names.at_mut(index), key, Named::Type_(ty))?;
+            add_new(self.names.at_mut(index), key, Named::Type_(ty))?;
         }
         let key = String::from_str(self.alloc, name)?;
         if index < self.interfaces.len() {
-            push_type(&mut self.interfaces.at_mut(index).types, key, ty)?;
+            add_new(&mut self.interfaces.at_mut(index).types, key, ty)?;
         }
         Ok(())
     }
@@ -242,35 +243,6 @@ impl Draft {
 fn push_gate(items: &mut ForeignNames, index: usize, gate: Stability) -> Result<(), AllocError> {
     if index < items.len() {
         items.value_at_mut(index).1.push(gate)?;
-    }
-    Ok(())
-}
-
-/// Adds an item under a name that isn't there.
-fn push_item(
-    items: &mut ForeignNames,
-    name: String,
-    item: AstItem,
-    gates: Items<Stability>,
-) -> Result<(), AllocError> {
-    if !items.contains_key(name.as_str()) {
-        items.push(name, (item, gates))?;
-    }
-    Ok(())
-}
-
-/// Adds what a name stands for where the name isn't there.
-fn push_name(names: &mut Names<Named>, name: String, named: Named) -> Result<(), AllocError> {
-    if !names.contains_key(name.as_str()) {
-        names.push(name, named)?;
-    }
-    Ok(())
-}
-
-/// Adds a type under a name that isn't there.
-fn push_type(types: &mut Names<TypeId>, name: String, ty: TypeId) -> Result<(), AllocError> {
-    if !types.contains_key(name.as_str()) {
-        types.push(name, ty)?;
     }
     Ok(())
 }

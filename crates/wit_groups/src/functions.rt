@@ -202,7 +202,8 @@ impl<'a> Context<'a> {
         };
         match &node.kind {
             TypeNodeKind::Result_ {
-                ok: Some(index), ..
+                ok: Some(index),
+                ..
             } => match self.part.types.get(*index) {
                 Some(part) => part.span,
                 None => node.span,
@@ -218,18 +219,17 @@ fn resource_function_name(
     resource: Piece,
     name: ResourceFunctionName,
 ) -> Result<Text, AllocError> {
+    let alloc = context.alloc;
     let resource = context.text(resource);
     let text = match name {
-        ResourceFunctionName::Constructor(_) => {
-            format!(in context.alloc; "[constructor]{resource}")?
-        }
+        ResourceFunctionName::Constructor(_) => { format!(in alloc; "[constructor]{resource}")? }
         ResourceFunctionName::Method(name) => {
             let name = context.text(name);
-            format!(in context.alloc; "[method]{resource}.{name}")?
+            format!(in alloc; "[method]{resource}.{name}")?
         }
         ResourceFunctionName::Static(name) => {
             let name = context.text(name);
-            format!(in context.alloc; "[static]{resource}.{name}")?
+            format!(in alloc; "[static]{resource}.{name}")?
         }
     };
     Ok(Text::from_string(text))

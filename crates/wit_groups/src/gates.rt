@@ -3,7 +3,7 @@
 use crate::fault::{Fault, GroupFaultKind, RuleFault};
 use std::alloc::{AllocError, Global};
 use wit_data::{Docs, Stability, Text, Version};
-use wit_text::syntax::{Attribute, AttributeKind, Gate, PackagePath, Piece};
+use wit_text::syntax::{AttributeKind, Gate, Piece};
 use wit_text::{Comments, ReadFaultKind};
 
 /// What most things may have.
@@ -56,23 +56,25 @@ fn check_external_ids(gate: &Gate, may_have_id: bool) -> Result<(), Fault> {
 
 /// Whether the attributes that aren't external ids are none, `since` or `unstable`, or one of these and `deprecated`.
 fn check_gates(gate: &Gate) -> Result<(), Fault> {
-    let mut gates = gate
-        .attributes
-        .iter()
-        .filter(|attribute| attribute.kind != AttributeKind::ExternalId);
-    let Some(first) = gates.next() else {
-        return Ok(());
-    };
-    let Some(second) = gates.next() else {
-        if first.kind == AttributeKind::Deprecated {
-            return Err(Fault::rule(first.span, RuleFault::DeprecatedAlone));
+    let mut first = None;
+    let mut second = None;
+    let mut has_third = false;
+    for attribute in gate.attributes.iter() {
+        if attribute.kind != AttributeKind::ExternalId {
+            has_third = second.is_some();
+            second = second.or(first.and(Some(*attribute)));
+            first = first.or(Some(*attribute));
         }
-        return Ok(());
-    };
-    if gates.next().is_none() && go_together(first.kind, second.kind) {
-        return Ok(());
     }
-    Err(Fault::rule(second.span, RuleFault::UnsupportedAttributes))
+    match (first, second) {
+        (Some(first), None) if first.kind == AttributeKind::Deprecated => {
+            Err(Fault::rule(first.span, RuleFault::DeprecatedAlone))
+        }
+        (Some(first), Some(second)) if has_third || !go_together(first.kind, second.kind) => {
+            Err(Fault::rule(second.span, RuleFault::UnsupportedAttributes))
+        }
+        _ => Ok(()),
+    }
 }
 
 /// Whether one of two attributes says since when a thing is deprecated, and the other doesn't.

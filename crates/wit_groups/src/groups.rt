@@ -1,4 +1,9 @@
 //! Groups of packages from the files of a source map.
+ghost use Rattle.std.specs.Prelude.{◌≡◌, IfErr, IfOk, IsNone, map};
+ghost use Rattle.std.specs.List.{AllByRecursion};
+ghost use Rattle.wit_data.specs.Each.{Each};
+ghost use Rattle.wit_data.specs.Shape.{IsGroupShaped, IsShaped};
+ghost use Rattle.wit_groups.specs.Files.{HasFiles, source_map_of};
 
 use crate::fault::{Fault, GroupFault, GroupFaultKind, RuleFault};
 use crate::gates::docs;
@@ -10,6 +15,7 @@ use std::alloc::{AllocError, Global};
 use wit_data::{
     Docs, Items, PackageName, SourceMap, Span, TryClone, UnresolvedPackage, UnresolvedPackageGroup,
 };
+use wit_shape::{ShapeFault, find_shape_fault};
 use wit_text::read_file;
 use wit_text::syntax::{File, Header, NestedPackage};
 
@@ -22,15 +28,71 @@ use wit_text::syntax::{File, Header, NestedPackage};
 pub fn read_group(
     alloc: Global,
     source_map: SourceMap,
-) -> Result<UnresolvedPackageGroup, GroupFault> {
+) -> Result<UnresolvedPackageGroup, GroupFault>
+    ensures shaped { IfOk result (λ group. IsGroupShaped group) }
+    ensures files { IfOk result (λ group. group.source_map ≡ source_map) }
+    ensures fault { IfErr result (HasFiles source_map) }
+{
     match read_packages(alloc, &source_map) {
-        Ok(Packages { main, nested }) => Ok(UnresolvedPackageGroup {
+        Ok(Packages { main, nested }) => shaped_group(alloc, main, nested, source_map),
+        Err(fault) => Err(fault.of_files(source_map)),
+    }
+}
+
+/// The group of these packages, if they have their shape.
+fn shaped_group(
+    alloc: Global,
+    main: UnresolvedPackage,
+    nested: Items<UnresolvedPackage>,
+    source_map: SourceMap,
+) -> Result<UnresolvedPackageGroup, GroupFault>
+    ensures shaped { IfOk result (λ group. IsGroupShaped group) }
+    ensures files { IfOk result (λ group. group.source_map ≡ source_map) }
+    ensures fault { IfErr result (HasFiles source_map) }
+{
+    match first_shape_fault(alloc, &main, nested.as_slice()) {
+        Ok(None) => Ok(UnresolvedPackageGroup {
             main,
             nested,
             source_map,
         }),
-        Err(fault) => Err(fault.of_files(source_map)),
+        Ok(Some((span, fault))) => Err(GroupFault::Text {
+            source_map,
+            span,
+            kind: GroupFaultKind::Shape(fault),
+        }),
+        Err(refused) => Err(GroupFault::from(refused)),
     }
+}
+
+/// The first fault of the shape of packages, and where the name of the package stands. None where each has its shape.
+fn first_shape_fault(
+    alloc: Global,
+    main: &UnresolvedPackage,
+    nested: &[UnresolvedPackage],
+) -> Result<Option<(Span, ShapeFault)>, AllocError>
+    ensures { IfOk result
+        (λ found. IsNone found → (IsShaped main.now) × (Each IsShaped nested.now)) }
+{
+    match find_shape_fault(alloc, main)? {
+        Some(fault) => Ok(Some((main.package_name_span, fault))),
+        None => nested_shape_fault(alloc, nested),
+    }
+}
+
+/// The same of packages in braces.
+fn nested_shape_fault(
+    alloc: Global,
+    nested: &[UnresolvedPackage],
+) -> Result<Option<(Span, ShapeFault)>, AllocError>
+    ensures { IfOk result (λ found. IsNone found → Each IsShaped nested.now) }
+{
+    for package in nested {
+        if let Some(fault) = find_shape_fault(alloc, package)? {
+            return Ok(Some((package.package_name_span, fault)));
+        }
+    }
+    Ok(None)
 }
 
 /// A group of packages, and those of the packages on which it depends.
@@ -46,7 +108,12 @@ pub fn read_groups(
     alloc: Global,
     main: SourceMap,
     deps: Items<SourceMap>,
-) -> Result<Groups, GroupFault> {
+) -> Result<Groups, GroupFault>
+    ensures main { IfOk result (λ groups. IsGroupShaped groups.main) }
+    ensures deps { IfOk result (λ groups. AllByRecursion IsGroupShaped groups.deps) }
+    ensures main_files { IfOk result (λ groups. groups.main.source_map ≡ main) }
+    ensures deps_files { IfOk result (λ groups. map source_map_of groups.deps ≡ deps) }
+{
     let main = read_group(alloc, main)?;
     let deps = read_each(alloc, deps)?;
     Ok(Groups { main, deps })
@@ -55,7 +122,10 @@ pub fn read_groups(
 fn read_each(
     alloc: Global,
     maps: Items<SourceMap>,
-) -> Result<Items<UnresolvedPackageGroup>, GroupFault> {
+) -> Result<Items<UnresolvedPackageGroup>, GroupFault>
+    ensures shaped { IfOk result (λ groups. AllByRecursion IsGroupShaped groups) }
+    ensures files { IfOk result (λ groups. map source_map_of groups ≡ maps) }
+{
     let mut groups = Items::new(alloc);
     for source_map in maps.into_vec() {
         let group = read_group(alloc, source_map)?;
@@ -158,7 +228,11 @@ impl<'a> Reading<'a> {
             Some(head) => head.docs,
             None => Docs::none(),
         };
-        let docs = if known.contents.is_some() { known } else { docs };
+        let docs = if known.contents.is_some() {
+            known
+        } else {
+            docs
+        };
         self.head = Some(PackageHead { name, span, docs });
     }
 
@@ -181,10 +255,7 @@ impl<'a> Reading<'a> {
 }
 
 /// What files say of their package.
-fn parts_of<'a>(
-    alloc: Global,
-    files: &'a [FileRead<'a>],
-) -> Result<Items<Part<'a>>, AllocError> {
+fn parts_of<'a>(alloc: Global, files: &'a [FileRead<'a>]) -> Result<Items<Part<'a>>, AllocError> {
     let mut parts = Items::new(alloc);
     for read in files {
         parts.push(Part {

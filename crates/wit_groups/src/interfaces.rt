@@ -4,11 +4,10 @@ use crate::draft::{Draft, Named};
 use crate::fault::{Fault, NameFault};
 use crate::gates::{check_attributes, docs, stability};
 use crate::scope::{Context, ScopeDraft};
+use crate::tables::add_new;
 use crate::written::{Body, type_statements};
 use std::alloc::{AllocError, Global};
-use wit_data::{
-    Docs, Function, Interface, InterfaceId, Names, Stability, Text, TypeId, TypeOwner,
-};
+use wit_data::{Docs, Function, Interface, InterfaceId, Names, Stability, Text, TypeId, TypeOwner};
 use wit_text::syntax::{
     DefinitionKind, Gate, InterfaceStatement, InterfaceStatementKind, Piece, ResourceFunction,
 };
@@ -131,16 +130,8 @@ fn types_of(alloc: Global, names: &Names<Named>) -> Result<Names<TypeId>, AllocE
     let mut types = Names::new(alloc);
     for (name, named) in names.iter() {
         if let Named::Type_(id) = named {
-            add_type(&mut types, String::from_str(alloc, name)?, *id)?;
+            add_new(&mut types, String::from_str(alloc, name)?, *id)?;
         }
     }
     Ok(types)
-}
-
-/// Adds a type under a name that isn't there.
-fn add_type(types: &mut Names<TypeId>, name: String, id: TypeId) -> Result<(), AllocError> {
-    if !types.contains_key(name.as_str()) {
-        types.push(name, id)?;
-    }
-    Ok(())
 }

@@ -21,12 +21,11 @@ mod package_names;
 mod packages;
 mod scope;
 mod sources;
+mod tables;
 mod types;
 mod unnamed;
 mod worlds;
 mod written;
 
-pub use crate::fault::{
-    EntrySide, EntrySort, GroupFault, GroupFaultKind, NameFault, RuleFault,
-};
+pub use crate::fault::{EntrySide, EntrySort, GroupFault, GroupFaultKind, NameFault, RuleFault};
 pub use crate::groups::{Groups, read_group, read_groups};

@@ -2,6 +2,7 @@
 
 use crate::fault::{Fault, NameFault, RuleFault};
 use crate::order::{Need, Sorted, in_order};
+use crate::tables::add_new;
 use crate::written::{Body, Part, Scope};
 use std::alloc::{AllocError, Global};
 use wit_data::{AstItem, Items, Names};
@@ -186,7 +187,7 @@ fn numbers_of(alloc: Global, scopes: &[Scope<'_>]) -> Result<Names<usize>, Fault
         if numbers.contains_key(name) {
             return Err(Fault::name(alloc, scope.name.span, NameFault::DuplicateItem, name));
         }
-        numbers.push(String::from_str(alloc, name)?, number)?;
+        add_new(&mut numbers, String::from_str(alloc, name)?, number)?;
     }
     Ok(numbers)
 }
@@ -200,7 +201,7 @@ fn file_names(alloc: Global, part: Part<'_>) -> Result<FileNames, Fault> {
         if names.contains_key(text) {
             return Err(Fault::name(alloc, name.span, NameFault::DuplicateInFile, text));
         }
-        names.push(String::from_str(alloc, text)?, path)?;
+        add_new(&mut names, String::from_str(alloc, text)?, path)?;
     }
     Ok(names)
 }
@@ -251,10 +252,7 @@ fn needed_paths(alloc: Global, body: Body<'_>) -> Result<Items<Path>, AllocError
     }
 }
 
-fn used_paths(
-    alloc: Global,
-    statements: &[InterfaceStatement],
-) -> Result<Items<Path>, AllocError> {
+fn used_paths(alloc: Global, statements: &[InterfaceStatement]) -> Result<Items<Path>, AllocError> {
     let mut paths = Items::new(alloc);
     for statement in statements {
         if let InterfaceStatementKind::Use(used) = &statement.kind {
@@ -264,10 +262,7 @@ fn used_paths(
     Ok(paths)
 }
 
-fn included_paths(
-    alloc: Global,
-    statements: &[WorldStatement],
-) -> Result<Items<Path>, AllocError> {
+fn included_paths(alloc: Global, statements: &[WorldStatement]) -> Result<Items<Path>, AllocError> {
     let mut paths = Items::new(alloc);
     for statement in statements {
         if let WorldStatementKind::Include(include) = &statement.kind {

@@ -3,13 +3,13 @@
 use std::alloc::{AllocError, Global};
 use std::cmp::Reverse;
 use std::collections::BinaryHeap;
-use wit_data::Items;
+use wit_data::{Items, Span};
 
 /// That a thing needs another: which, by its number, and where it says so.
 #[derive(Clone, Copy)]
 pub(crate) struct Need {
     pub target: usize,
-    pub span: wit_data::Span,
+    pub span: Span,
 }
 
 /// The order of things, or the first need that keeps one from having a place.
@@ -81,17 +81,26 @@ impl Waiting {
         Ok(())
     }
 
-    /// Gives a thing its place.
+    /// Gives a thing its place: those that need it wait for one thing less.
     fn place(&mut self, thing: usize) -> Result<(), AllocError> {
-        if let Some(users) = self.users.get(thing) {
-            for user in users.iter() {
-                if *user < self.counts.len() {
-                    let count = self.counts.at(*user).saturating_sub(1);
-                    self.counts.set(*user, count);
-                    if count == 0 {
-                        self.ready.push(Reverse(*user))?;
-                    }
-                }
+        if thing >= self.users.len() {
+            return Ok(());
+        }
+        let none = Items::new(self.users.allocator());
+        let users = self.users.replace(thing, none);
+        for user in users.iter() {
+            self.end_wait(*user)?;
+        }
+        Ok(())
+    }
+
+    /// Notes that a thing waits for one thing less. It is ready if that was the last.
+    fn end_wait(&mut self, thing: usize) -> Result<(), AllocError> {
+        if thing < self.counts.len() {
+            let count = self.counts.at(thing).saturating_sub(1);
+            self.counts.set(thing, count);
+            if count == 0 {
+                self.ready.push(Reverse(thing))?;
             }
         }
         Ok(())

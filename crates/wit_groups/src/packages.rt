@@ -1,7 +1,7 @@
 //! Packages.
 
 use crate::draft::Draft;
-use crate::fault::{Fault, GroupFaultKind};
+use crate::fault::Fault;
 use crate::interfaces::WrittenInterface;
 use crate::mentions::mentions_of;
 use crate::names::Directory;
@@ -9,7 +9,6 @@ use crate::scope::Context;
 use crate::written::{Body, Part, Scope, scopes_of};
 use std::alloc::Global;
 use wit_data::{AstItem, Docs, PackageName, Span, Text, UnresolvedPackage};
-use wit_shape::find_shape_fault;
 
 /// What a package is called, where that stands, and its documentation.
 #[derive(Drop)]
@@ -19,19 +18,15 @@ pub(crate) struct PackageHead {
     pub docs: Docs,
 }
 
-/// The package that these parts of files are. It has its shape.
+/// The package that these parts of files are.
 pub(crate) fn make_package(
     alloc: Global,
     head: PackageHead,
     parts: &[Part<'_>],
 ) -> Result<UnresolvedPackage, Fault> {
     let draft = draft_of(alloc, parts)?;
-    let span = head.span;
-    let package = draft.into_package(head.name, span, head.docs);
-    match find_shape_fault(alloc, &package)? {
-        None => Ok(package),
-        Some(fault) => Err(Fault::At(span, GroupFaultKind::Shape(fault))),
-    }
+    let PackageHead { name, span, docs } = head;
+    Ok(draft.into_package(name, span, docs))
 }
 
 /// What parts of files make of their package.

@@ -74,11 +74,11 @@ impl<'a> ScopeDraft<'a> {
 
     /// Says what a name stands for, which stands for nothing yet.
     pub fn define(&mut self, name: Piece, named: Named) -> Result<(), Fault> {
-        let text = self.context.text(name);
-        if self.names.contains_key(text) {
+        let key = String::from_str(self.context.alloc, self.context.text(name))?;
+        if self.names.contains_key(key.as_str()) {
             return Err(self.context.name_fault(name, NameFault::DefinedTwice));
         }
-        self.names.push(String::from_str(self.context.alloc, text)?, named)?;
+        self.names.push(key, named)?;
         Ok(())
     }
 

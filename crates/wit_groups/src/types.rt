@@ -177,12 +177,7 @@ impl<'a> ScopeDraft<'a> {
         Ok(TypeDefKind::Record { fields })
     }
 
-    fn field(
-        &self,
-        draft: &mut Draft,
-        member: &Member,
-        gate: &Stability,
-    ) -> Result<Field, Fault> {
+    fn field(&self, draft: &mut Draft, member: &Member, gate: &Stability) -> Result<Field, Fault> {
         let Some(range) = member.ty else {
             return Err(missing_part());
         };

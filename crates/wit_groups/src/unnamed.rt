@@ -1,6 +1,7 @@
 //! Types without a name, each of which is there once.
 
 use crate::draft::Draft;
+use crate::tables::add_new;
 use std::alloc::{AllocError, Global};
 use std::fmt::Write;
 use wit_data::{
@@ -25,7 +26,7 @@ impl Draft {
         def.stability = stability;
         def.span = span;
         let id = self.add_type(def)?;
-        self.unnamed.push(key, id)?;
+        add_new(&mut self.unnamed, key, id)?;
         Ok(id)
     }
 

@@ -69,12 +69,7 @@ impl<'a> Context<'a> {
         Ok(includes)
     }
 
-    fn include(
-        self,
-        draft: &Draft,
-        gate: &Gate,
-        include: &Include,
-    ) -> Result<WorldInclude, Fault> {
+    fn include(self, draft: &Draft, gate: &Gate, include: &Include) -> Result<WorldInclude, Fault> {
         let source = self.part.source;
         let common = common(self.alloc, source, gate, false)?;
         let id = draft.world_at(self.directory, self.file, source, include.path)?;
@@ -179,9 +174,7 @@ impl<'a> ScopeDraft<'a> {
     fn taken(&self, side: EntrySide, sort: EntrySort, written: &Entry, span: Span) -> Fault {
         match written {
             Entry::Path(_) => Fault::rule(span, RuleFault::EntryTwice(side)),
-            Entry::Labelled(label, _)
-            | Entry::Function(label, _)
-            | Entry::Interface(label, _) => {
+            Entry::Labelled(label, _) | Entry::Function(label, _) | Entry::Interface(label, _) => {
                 let fault = NameFault::EntryConflict(side, sort);
                 Fault::name(self.context.alloc, span, fault, self.context.text(*label))
             }
