@@ -1,8 +1,7 @@
 //! Why a path isn't read.
 
 use std::alloc::{AllocError, Global};
-use std::fmt;
-use std::io;
+use std::{fmt, io};
 use wit_resolve_graph::Text;
 
 /// What is wrong with a path.

@@ -2,8 +2,7 @@
 
 use crate::fault::{PathFault, PathFaultKind};
 use std::alloc::{AllocError, Global};
-use std::fs;
-use std::io;
+use std::{fs, io};
 use wit_resolve_graph::{Items, MapFault, SourceMap};
 use wit_streams::{StreamFault, Watched, read_all};
 

@@ -18,12 +18,9 @@ use crate::fault::PathFault;
 use crate::files::{Sources, read_path};
 use crate::refusal::Refusal;
 use std::alloc::{AllocError, Global};
-use std::env;
-use std::io;
 use std::process::ExitCode;
-use wit_options::{
-    Asked, HINT, Options, Outcome, USAGE, UsageFault, asked_by, deliver, or_memory,
-};
+use std::{env, io};
+use wit_options::{Asked, HINT, Options, Outcome, USAGE, UsageFault, asked_by, deliver, or_memory};
 use wit_resolve_graph::{Items, Text};
 use wit_streams::Watched;
 

@@ -55,12 +55,7 @@ fn turning(owner: &PackageName, world: &Text, turn: &Turn) -> Result<Command, Al
 }
 
 /// Refuses keys of which no import of a world has the name; the first is told.
-pub fn check_keys(
-    alloc: Global,
-    resolve: &Resolve,
-    id: WorldId,
-    turn: &Turn,
-) -> Result<(), Refusal>
+pub fn check_keys(alloc: Global, resolve: &Resolve, id: WorldId, turn: &Turn) -> Result<(), Refusal>
     requires { id < length resolve.now.graph.worlds }
     ensures ok { OnOk result (unknown_key resolve.now.graph id turn.now ≡ None) }
     ensures told { IfErr result (λ told. (told ≡ refusal.OutOfMemory)

@@ -100,8 +100,14 @@ word_kind word =
 -- nothing is asked for
 abbrev pub no_options : Options
 no_options = record {
-  paths = []; merges = []; world = None; features = []; all_features = false;
-  track_rule = None; turns = []; output = None;
+  paths = [];
+  merges = [];
+  world = None;
+  features = [];
+  all_features = false;
+  track_rule = None;
+  turns = [];
+  output = None;
 }
 
 abbrev pub twice : List ℕ → Asked

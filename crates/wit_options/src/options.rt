@@ -53,7 +53,8 @@ impl Turn {
     {
         match self {
             Turn::Exportize {
-                keys: Some(keys), ..
+                keys: Some(keys),
+                ..
             } => keys.as_slice(),
             _ => &[],
         }
