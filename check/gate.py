@@ -70,7 +70,7 @@ AFTER = {
     "c": "WITGRAPH_SHARED={library}/libwitgraph.so check/c_example.sh",
     "threads": "WITGRAPH_LIBRARY={library} check/threads.sh",
     "release": "check/release.sh --of {library}",
-    "plain-rust": "python3 check/plain.py {witgraph} {witgraph_json} {witgraph_dot} --seed {seed}",
+    "plain-rust": "python3 check/plain.py {wit} {witgraph} {witgraph_json} {witgraph_dot} --seed {seed}",
     "changed-documents": "python3 check/mutated_documents.py {library}/libwitgraph.so --first {seed} --many 20000",
     "growth": "python3 bench/growth.py --rows {witgraph} {witgraph_json} {witgraph_dot}",
     "sweep": "python3 check/sweep.py --calls {test_sweep} --scripts {witgraph} --documents {witgraph_json} --pictures {witgraph_dot}",
