@@ -3,7 +3,7 @@ use Rattle.std.specs.Prelude.{◌≡◌, ⊤, ⊥, ℕ, List, [], ◌∷◌, ◌
 use Rattle.std.specs.Option.{option_map_or}
 use Rattle.wit.specs.Pretty.{laid_out}
 use Rattle.wit.specs.CoreNames.{core_names_text}
-use Rattle.wit.specs.Tasks.{AreShaped, DoesAll, imports_at, mains, tasks_of, unlinked}
+use Rattle.wit.specs.Tasks.{AreShaped, DoesAll, world_imports, mains, tasks_of, unlinked}
 use Rattle.wit.specs.declared.files.Sources.{Sources}
 use Rattle.wit.specs.declared.linked.Linked.{Linked}
 use Rattle.wit_elaboration.specs.Entries.{Entry}
@@ -34,13 +34,13 @@ AllRead _ _ = ⊥
 -- ---- what is written
 
 -- the world that is asked about: of a name, or the only one
-abbrev pub IsAsked : Linked → Option (List ℕ) → ℕ → Type 0
-IsAsked linked name w = selected_world linked.resolve.graph (mains linked) name ≡ Ok w
+abbrev pub IsAskedWorld : Linked → Option (List ℕ) → ℕ → Type 0
+IsAskedWorld linked name w = selected_world linked.resolve.graph (mains linked) name ≡ Ok w
 
 -- the names of what a world imports, each on a line
 abbrev pub imports_text : Graph → ℕ → List ℕ
 imports_text g w =
-    flat_map (λ (e : Entry). key_text g.packages g.interfaces e.0 ++ codes "\n") (imports_at g w)
+    flat_map (λ (e : Entry). key_text g.packages g.interfaces e.0 ++ codes "\n") (world_imports g w)
 
 -- JSON without a space, on a line
 abbrev pub json_line : Graph → List ℕ
@@ -60,20 +60,20 @@ Writes linked world (Some output.Json) text = text ≡ json_line linked.resolve.
 Writes linked world (Some output.Pretty) text = text ≡ json_lines linked.resolve.graph
 Writes linked world (Some output.Wit) text = text ≡ wit_of linked.resolve.graph linked.first
 Writes linked world (Some (output.CoreNames mangling)) text =
-    (w : ℕ) × IsAsked linked world w
+    (w : ℕ) × IsAskedWorld linked world w
     × (text ≡ core_names_text linked.resolve.graph mangling w)
 Writes linked world _ text =
-    (w : ℕ) × IsAsked linked world w × (text ≡ imports_text linked.resolve.graph w)
+    (w : ℕ) × IsAskedWorld linked world w × (text ≡ imports_text linked.resolve.graph w)
 
-abbrev pub IsAnswer : Linked → Options → List ℕ → Type 0
-IsAnswer linked o text = Writes linked o.world o.output text
+abbrev pub WritesAnswer : Linked → Options → List ℕ → Type 0
+WritesAnswer linked o text = Writes linked o.world o.output text
 
 -- ---- all of it
 
 -- what is read is pushed, merged and turned, and this is written
-abbrev pub Answers : Options → List Sources → List Sources → List ℕ → Type 0
-Answers o sources merges text =
+abbrev pub AnswersCall : Options → List Sources → List Sources → List ℕ → Type 0
+AnswersCall o sources merges text =
     (pushed : List Groups) × AllRead sources pushed
     × (merged : List Groups) × AllRead merges merged
     × (linked : Linked) × DoesAll o (unlinked o) (tasks_of pushed merged o.turns) linked
-    × IsAnswer linked o text
+    × WritesAnswer linked o text

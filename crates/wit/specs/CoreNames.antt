@@ -12,33 +12,33 @@ use Rattle.wit_data.specs.declared.world.WorldItem.TheVariants as item
 use Rattle.wit_data.specs.declared.world.WorldKey.{WorldKey}
 use Rattle.wit_elaboration.specs.Entries.{Entry}
 use Rattle.wit_graph_data.specs.declared.graph.Graph.{Graph}
-use Rattle.wit.specs.Tasks.{imports_at}
+use Rattle.wit.specs.Tasks.{world_imports}
 
 -- a function of a world, and the key of the interface that it stands in
-abbrev pub PlacedFunction : Type 0
-PlacedFunction = Option WorldKey × Function
+abbrev pub WorldFunction : Type 0
+WorldFunction = Option WorldKey × Function
 
-abbrev pub interface_functions : WorldKey → Interface → List PlacedFunction
-interface_functions key interface =
+abbrev pub functions_of_interface : WorldKey → Interface → List WorldFunction
+functions_of_interface key interface =
     map (λ (e : List ℕ × Function). (Some key, e.1)) interface.functions
 
-abbrev pub functions_at : Graph → WorldKey → ℕ → List PlacedFunction
-functions_at g key i = option_map_or (interface_functions key) (slice_get g.interfaces i) []
+abbrev pub functions_of_id : Graph → WorldKey → ℕ → List WorldFunction
+functions_of_id g key i = option_map_or (functions_of_interface key) (slice_get g.interfaces i) []
 
 -- the functions of an entry of a world
-abbrev pub entry_functions : Graph → Entry → List PlacedFunction
-entry_functions g (key, item.Function f) = (None, f) ∷ []
-entry_functions g (key, item.Interface id stability docs span external_id) = functions_at g key id
-entry_functions g (key, item.Type_ id span) = []
+abbrev pub functions_of_entry : Graph → Entry → List WorldFunction
+functions_of_entry g (key, item.Function f) = (None, f) ∷ []
+functions_of_entry g (key, item.Interface id stability docs span external_id) = functions_of_id g key id
+functions_of_entry g (key, item.Type_ id span) = []
 
 -- the module and the field of a function that is imported, as `import_names` has them
-abbrev pub import_names_of : Graph → ManglingAndAbi → PlacedFunction → List ℕ × List ℕ
+abbrev pub import_names_of : Graph → ManglingAndAbi → WorldFunction → List ℕ × List ℕ
 import_names_of g Standard32 placed = (standard_module g placed.0, placed.1.name)
 import_names_of g (Legacy abi) placed =
     (legacy_module g placed.0, import_prefix abi ++ placed.1.name)
 
 -- the name of a function that is exported, as `export_name` has it
-abbrev pub export_name_of : Graph → ManglingAndAbi → PlacedFunction → List ℕ
+abbrev pub export_name_of : Graph → ManglingAndAbi → WorldFunction → List ℕ
 export_name_of g Standard32 placed =
     codes "cm32p2|" ++ (standard_key g placed.0 ++ (codes "|" ++ placed.1.name))
 export_name_of g (Legacy abi) placed =
@@ -53,13 +53,15 @@ abbrev pub export_text : List ℕ → List ℕ
 export_text name = codes "export " ++ (name ++ codes "\n")
 
 -- the line of a function, where its interface has a name
-abbrev pub import_line : Graph → ManglingAndAbi → PlacedFunction → List ℕ
+abbrev pub import_line : Graph → ManglingAndAbi → WorldFunction → List ℕ
 import_line g mangling placed =
-    if interface_has_name g.interfaces placed.0 then import_text (import_names_of g mangling placed) else []
+    if interface_has_name g.interfaces placed.0 then import_text (import_names_of g mangling placed)
+    else []
 
-abbrev pub export_line : Graph → ManglingAndAbi → PlacedFunction → List ℕ
+abbrev pub export_line : Graph → ManglingAndAbi → WorldFunction → List ℕ
 export_line g mangling placed =
-    if interface_has_name g.interfaces placed.0 then export_text (export_name_of g mangling placed) else []
+    if interface_has_name g.interfaces placed.0 then export_text (export_name_of g mangling placed)
+    else []
 
 -- the exports of the world of an id
 abbrev pub exports_at : Graph → ℕ → List Entry
@@ -68,5 +70,5 @@ exports_at g w = unwrap_or (option_map (λ (world : World). world.exports) (slic
 -- the functions that a world imports, then those that it exports, each on a line
 abbrev pub core_names_text : Graph → ManglingAndAbi → ℕ → List ℕ
 core_names_text g mangling w =
-    flat_map (import_line g mangling) (flat_map (entry_functions g) (imports_at g w))
-    ++ flat_map (export_line g mangling) (flat_map (entry_functions g) (exports_at g w))
+    flat_map (import_line g mangling) (flat_map (functions_of_entry g) (world_imports g w))
+    ++ flat_map (export_line g mangling) (flat_map (functions_of_entry g) (exports_at g w))

@@ -65,14 +65,14 @@ Says refusal.OutOfMemory text = ⊤
 Says (refusal.Told told) text = told ≡ text
 
 -- a refused call is told with its place
-abbrev pub Tells : Refusal → List SourceFile → ResolveErrorKind → Type 0
-Tells told files kind = Says told (rendered_text files kind)
+abbrev pub TellsKind : Refusal → List SourceFile → ResolveErrorKind → Type 0
+TellsKind told files kind = Says told (rendered_text files kind)
 
 -- ---- commands
 
 -- what is told of a reply, in the state after it; other replies are no refusals
 abbrev pub Complains : Refusal → State → Reply → Type 0
-Complains told new (reply.Refused kind) = Tells told new.source_map.files kind
+Complains told new (reply.Refused kind) = TellsKind told new.source_map.files kind
 Complains told new reply.NoWorld = Says told (codes "the world isn't in its package")
 Complains told new _ = ⊥
 
@@ -88,7 +88,8 @@ RefusesCommand old command told =
 
 -- a package is pushed with its dependencies, and has this id
 abbrev pub IsPushed : State → Groups → ℕ → State → Type 0
-IsPushed old groups id new = Step old (command.PushGroups groups.main groups.deps) (reply.Pushed id) new
+IsPushed old groups id new =
+    Step old (command.PushGroups groups.main groups.deps) (reply.Pushed id) new
 
 -- ---- worlds
 
@@ -108,14 +109,14 @@ first_unknown g entries (key ∷ keys) =
     if has_key g entries key then first_unknown g entries keys else Some key
 
 -- the imports of the world of an id, and its name
-abbrev pub imports_at : Graph → ℕ → List Entry
-imports_at g w = unwrap_or (option_map (λ (world : World). world.imports) (slice_get g.worlds w)) []
+abbrev pub world_imports : Graph → ℕ → List Entry
+world_imports g w = unwrap_or (option_map (λ (world : World). world.imports) (slice_get g.worlds w)) []
 
 abbrev pub name_at : Graph → ℕ → List ℕ
 name_at g w = unwrap_or (option_map (λ (world : World). world.name) (slice_get g.worlds w)) []
 
 abbrev pub unknown_key : Graph → ℕ → Turn → Option (List ℕ)
-unknown_key g w turn = first_unknown g (imports_at g w) (listed_keys turn)
+unknown_key g w turn = first_unknown g (world_imports g w) (listed_keys turn)
 
 -- `KEY` is no import of world `WORLD`
 abbrev pub unknown_key_text : List ℕ → List ℕ → List ℕ
@@ -149,7 +150,7 @@ abbrev pub RefusesSelection : Linked → Option (List ℕ) → Refusal → Type 
 RefusesSelection linked name told =
     (kind : ResolveErrorKind)
     × IsSelectionError (selected_world linked.resolve.graph (mains linked) name) kind
-    × Tells told linked.resolve.source_map.files kind
+    × TellsKind told linked.resolve.source_map.files kind
 
 -- a world is turned: all keys that are listed are those of imports
 pub record Turns (old : Linked) (turn : Turn) (new : Linked) : Type 0 where
@@ -207,7 +208,7 @@ DoesAll o old [] new = new ≡ old
 DoesAll o old (task ∷ tasks) new =
     (mid : Linked) × Does o old task mid × DoesAll o mid tasks new
 
--- one of the tasks is refused after those before it are done; want of memory is no reason that is told
+-- one of the tasks is refused after those before it are done
 abbrev pub Stops : Options → Linked → List Task → Refusal → Type 0
 Stops o old [] told = ⊥
 Stops o old (task ∷ tasks) told =

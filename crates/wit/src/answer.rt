@@ -1,6 +1,6 @@
 //! What a call answers of what it read.
 ghost use Rattle.std.specs.Prelude.{◌≡◌, IfErr, IfOk, string_bytes, ℕ};
-ghost use Rattle.wit.specs.Answer.{AllRead, Answers, IsAnswer, IsAsked, imports_text, json_line, json_lines, wit_of};
+ghost use Rattle.wit.specs.Answer.{AllRead, AnswersCall, WritesAnswer, IsAskedWorld, imports_text, json_line, json_lines, wit_of};
 ghost use Rattle.wit.specs.CoreNames.{core_names_text};
 ghost use Rattle.wit.specs.Tasks.{RefusesSelection};
 
@@ -25,7 +25,7 @@ pub fn answer_to(
     sources: Items<Sources>,
     merges: Items<Sources>,
 ) -> Result<String, Refusal>
-    ensures { IfOk result (λ text. Answers options sources merges (string_bytes text)) }
+    ensures { IfOk result (λ text. AnswersCall options sources merges (string_bytes text)) }
 {
     let mut options = options;
     let pushed = groups_of(alloc, sources)?;
@@ -54,7 +54,7 @@ fn groups_of(alloc: Global, sources: Items<Sources>) -> Result<Items<Groups>, Re
 impl Linked {
     /// What options ask for.
     pub fn answer(&self, alloc: Global, options: &Options) -> Result<String, Refusal>
-        ensures ok { IfOk result (λ text. IsAnswer self.now options.now (string_bytes text)) }
+        ensures ok { IfOk result (λ text. WritesAnswer self.now options.now (string_bytes text)) }
         ensures told { IfErr result (RefusesSelection self.now options.now.world) }
     {
         match options.output {
@@ -69,7 +69,7 @@ impl Linked {
 
     /// The world that options ask about.
     fn asked_world(&self, alloc: Global, options: &Options) -> Result<WorldId, Refusal>
-        ensures ok { IfOk result (λ id. IsAsked self.now options.now.world id) }
+        ensures ok { IfOk result (λ id. IsAskedWorld self.now options.now.world id) }
         ensures told { IfErr result (RefusesSelection self.now options.now.world) }
     {
         match &options.world {
@@ -80,7 +80,7 @@ impl Linked {
 
     /// The names of what the world imports.
     fn imports(&self, alloc: Global, options: &Options) -> Result<String, Refusal>
-        ensures ok { IfOk result (λ text. (w : ℕ) × IsAsked self.now options.now.world w
+        ensures ok { IfOk result (λ text. (w : ℕ) × IsAskedWorld self.now options.now.world w
             × (string_bytes text ≡ imports_text self.now.resolve.graph w)) }
         ensures told { IfErr result (RefusesSelection self.now options.now.world) }
     {
@@ -98,7 +98,7 @@ impl Linked {
         options: &Options,
         mangling: ManglingAndAbi,
     ) -> Result<String, Refusal>
-        ensures ok { IfOk result (λ text. (w : ℕ) × IsAsked self.now options.now.world w
+        ensures ok { IfOk result (λ text. (w : ℕ) × IsAskedWorld self.now options.now.world w
             × (string_bytes text ≡ core_names_text self.now.resolve.graph mangling w)) }
         ensures told { IfErr result (RefusesSelection self.now options.now.world) }
     {

@@ -1,6 +1,6 @@
 //! The names in core wasm of the functions of a world.
 ghost use Rattle.std.specs.Prelude.{◌≡◌, ◌++◌, IfOk, OnOk, flat_map, string_bytes};
-ghost use Rattle.wit.specs.CoreNames.{core_names_text, entry_functions, export_line, functions_at, import_line};
+ghost use Rattle.wit.specs.CoreNames.{core_names_text, functions_of_entry, export_line, functions_of_id, import_line};
 ghost use Rattle.wit.specs.steps.Placed.{placed_function, placed_functions};
 
 use std::alloc::{AllocError, Global};
@@ -46,7 +46,7 @@ fn functions_of<'a>(
     entries: &'a Table<WorldKey, WorldItem>,
 ) -> Result<Vec<Placed<'a>>, AllocError>
     ensures { IfOk result (λ placed. placed_functions placed.items
-        ≡ flat_map (entry_functions resolve.now.graph) entries.now) }
+        ≡ flat_map (functions_of_entry resolve.now.graph) entries.now) }
 {
     let mut placed = Vec::new(alloc);
     for (key, item) in entries.iter() {
@@ -64,7 +64,7 @@ fn add_functions<'a>(
 ) -> Result<(), AllocError>
     ensures { OnOk result (placed_functions placed.new.items
         ≡ placed_functions placed.old.items
-        ++ entry_functions resolve.now.graph (key.now, item.now)) }
+        ++ functions_of_entry resolve.now.graph (key.now, item.now)) }
 {
     match item {
         WorldItem::Function(function) => placed.push(Placed {
@@ -85,7 +85,7 @@ fn add_interface<'a>(
     placed: &mut Vec<Placed<'a>>,
 ) -> Result<(), AllocError>
     ensures { OnOk result (placed_functions placed.new.items
-        ≡ placed_functions placed.old.items ++ functions_at resolve.now.graph key.now id) }
+        ≡ placed_functions placed.old.items ++ functions_of_id resolve.now.graph key.now id) }
 {
     let Some(interface) = resolve.interfaces().get(id.index()) else {
         return Ok(());

@@ -20,7 +20,7 @@ use crate::refusal::Refusal;
 use std::alloc::{AllocError, Global};
 use std::process::ExitCode;
 use std::{env, io};
-use wit_options::{Asked, HINT, Options, Outcome, USAGE, UsageFault, asked_by, deliver, or_memory};
+use wit_options::{Asked, HINT, Options, Outcome, USAGE, UsageFault, asked_for, deliver, or_memory};
 use wit_resolve_graph::{Items, Text};
 use wit_streams::Watched;
 
@@ -108,7 +108,7 @@ fn outcome(rt: &HostRuntime) -> Result<Outcome, AllocError> {
         Ok(words) => words,
         Err(error) => return unread_words(alloc, &error),
     };
-    match asked_by(alloc, &words)? {
+    match asked_for(alloc, &words)? {
         Asked::Work(options) => work(rt, options),
         Asked::Help => Ok(Outcome::Done(Text::from_string(format!(in alloc; "{USAGE}\n")?))),
         Asked::Version => {

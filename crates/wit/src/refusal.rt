@@ -1,6 +1,6 @@
 //! Why there is no answer.
 ghost use Rattle.std.specs.Prelude.{◌≡◌, IfErr, IfOk, Ok};
-ghost use Rattle.wit.specs.Tasks.{Says, Tells};
+ghost use Rattle.wit.specs.Tasks.{Says, TellsKind};
 
 use std::alloc::{AllocError, Global};
 use wit_groups::GroupFault;
@@ -37,7 +37,7 @@ impl Refusal {
 
     /// What is told of a refused call, with the line in these files in which it is.
     pub fn of_error(alloc: Global, files: &SourceMap, error: &ResolveError) -> Refusal
-        ensures { Tells result files.now.files error.now }
+        ensures { TellsKind result files.now.files error.now }
     {
         match error.kind() {
             ResolveErrorKind::OutOfMemory => Refusal::OutOfMemory,
@@ -64,7 +64,7 @@ impl Refusal {
 pub fn told<T>(alloc: Global, files: &SourceMap, answer: ResolveResult<T>) -> Result<T, Refusal>
     ensures ok { (value : T) → result ≡ Ok value → answer ≡ Ok value }
     ensures told { IfErr result (λ refusal.
-        (kind : ResolveErrorKind) × (answer ≡ Err kind) × Tells refusal files.now.files kind) }
+        (kind : ResolveErrorKind) × (answer ≡ Err kind) × TellsKind refusal files.now.files kind) }
 {
     match answer {
         Ok(value) => Ok(value),

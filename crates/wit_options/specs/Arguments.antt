@@ -1,8 +1,8 @@
 -- What the words behind the program's name ask for.
-use Rattle.std.specs.Prelude.{◌≡◌, ⊤, ℕ, Bool, true, false, List, [], ◌∷◌, ◌++◌, Option, Some, None, Result, Ok, Err, ◌&&◌, ◌||◌, ◌==◌, bytes_eq, codes, if◌then◌else◌, map}
+use Rattle.std.specs.Prelude.{◌≡◌, ◌⊎◌, ℕ, Bool, true, false, List, [], ◌∷◌, ◌++◌, Option, Some, None, Result, Ok, Err, ◌&&◌, ◌||◌, ◌==◌, bytes_eq, codes, if◌then◌else◌, map}
 use Rattle.std.specs.List.{list_any, slice_split}
 use Rattle.std.specs.Option.{option_map, option_map_or}
-use Rattle.wit_options.specs.Words.{split_at}
+use Rattle.wit_options.specs.Words.{split_at_first}
 use Rattle.wit_options.specs.declared.arguments.Asked.{Asked}
 use Rattle.wit_options.specs.declared.arguments.Asked.TheVariants as asked
 use Rattle.wit_options.specs.declared.arguments.Reading.{Reading}
@@ -43,15 +43,15 @@ track_rule_named word =
     else None
 
 -- the word of an option with a value
-abbrev pub word_of : Valued → List ℕ
-word_of valued.World = codes "--world"
-word_of valued.Features = codes "--features"
-word_of valued.Merge = codes "--merge"
-word_of valued.Importize = codes "--importize"
-word_of valued.Exportize = codes "--exportize"
-word_of valued.Semver = codes "--semver"
-word_of valued.TrackRule = codes "--track-rule"
-word_of valued.CoreNames = codes "--core-names"
+abbrev pub option_word : Valued → List ℕ
+option_word valued.World = codes "--world"
+option_word valued.Features = codes "--features"
+option_word valued.Merge = codes "--merge"
+option_word valued.Importize = codes "--importize"
+option_word valued.Exportize = codes "--exportize"
+option_word valued.Semver = codes "--semver"
+option_word valued.TrackRule = codes "--track-rule"
+option_word valued.CoreNames = codes "--core-names"
 
 abbrev pub valued_named : List ℕ → Option Valued
 valued_named word =
@@ -114,7 +114,7 @@ abbrev pub twice : List ℕ → Asked
 twice word = asked.Fault (fault.Twice word)
 
 abbrev pub not_a_value : Valued → List ℕ → Asked
-not_a_value option value = asked.Fault (fault.NotAValue (word_of option) value)
+not_a_value option value = asked.Fault (fault.NotAValue (option_word option) value)
 
 -- standard input is read
 abbrev pub reads_input : Options → Bool
@@ -136,8 +136,8 @@ with_merge o path =
     if is_read_again o path then Err (twice path)
     else Ok (record o { merges = o.merges ++ path ∷ [] })
 
-abbrev pub with_world : Options → List ℕ → Result Options Asked
-with_world o world =
+abbrev pub asking_about : Options → List ℕ → Result Options Asked
+asking_about o world =
     option_map_or (λ _. Err (twice (codes "--world"))) o.world
     (Ok (record o { world = Some world }))
 
@@ -158,7 +158,7 @@ parts_of text = slice_split (λ b. b == 44) text
 abbrev pub exportizing : List ℕ → Turn
 exportizing value =
     option_map_or (λ (halves : List ℕ × List ℕ). turn.Exportize halves.0 (Some (parts_of halves.1)))
-    (split_at 61 value) (turn.Exportize value None)
+    (split_at_first 61 value) (turn.Exportize value None)
 
 -- one output may be asked for; JSON may be pretty besides
 abbrev pub joined_outputs : Option Output → Output → Option Output
@@ -175,18 +175,18 @@ with_output o output word =
 abbrev pub with_core_names : Options → Option ManglingAndAbi → List ℕ → Result Options Asked
 with_core_names o None name = Err (not_a_value valued.CoreNames name)
 with_core_names o (Some mangling) name =
-    with_output o (output.CoreNames mangling) (word_of valued.CoreNames)
+    with_output o (output.CoreNames mangling) (option_word valued.CoreNames)
 
 -- options with the value of one
-abbrev pub with_value : Options → Valued → List ℕ → Result Options Asked
-with_value o valued.World value = with_world o value
-with_value o valued.Features value = Ok (record o { features = o.features ++ parts_of value })
-with_value o valued.Merge value = with_merge o value
-with_value o valued.Importize value = Ok (with_turn o (turn.Importize value))
-with_value o valued.Exportize value = Ok (with_turn o (exportizing value))
-with_value o valued.Semver value = Ok (with_turn o (turn.Semver value))
-with_value o valued.TrackRule value = with_track_rule o (track_rule_named value) value
-with_value o valued.CoreNames value = with_core_names o (mangling_named value) value
+abbrev pub with_option : Options → Valued → List ℕ → Result Options Asked
+with_option o valued.World value = asking_about o value
+with_option o valued.Features value = Ok (record o { features = o.features ++ parts_of value })
+with_option o valued.Merge value = with_merge o value
+with_option o valued.Importize value = Ok (with_turn o (turn.Importize value))
+with_option o valued.Exportize value = Ok (with_turn o (exportizing value))
+with_option o valued.Semver value = Ok (with_turn o (turn.Semver value))
+with_option o valued.TrackRule value = with_track_rule o (track_rule_named value) value
+with_option o valued.CoreNames value = with_core_names o (mangling_named value) value
 
 -- ---- words, one after another
 
@@ -206,7 +206,7 @@ taken_as o kind.Version word = Err asked.Version
 taken_as o kind.Unknown word = Err (asked.Fault (fault.Unknown word))
 
 abbrev pub taken_by : Options → Option Valued → List ℕ → Result Reading Asked
-taken_by o (Some option) word = not_waiting (with_value o option word)
+taken_by o (Some option) word = not_waiting (with_option o option word)
 taken_by o None word = taken_as o (word_kind word) word
 
 -- a word is taken: as the value of the option before it, or by itself
@@ -219,7 +219,7 @@ ended_with [] o = asked.Fault fault.NoPath
 ended_with (path ∷ paths) o = asked.Work o
 
 abbrev pub ended_by : Options → Option Valued → Asked
-ended_by o (Some option) = asked.Fault (fault.NoValue (word_of option))
+ended_by o (Some option) = asked.Fault (fault.NoValue (option_word option))
 ended_by o None = ended_with o.paths o
 
 abbrev pub ended : Reading → Asked
@@ -235,12 +235,13 @@ asked_from reading [] = ended reading
 asked_from reading (word ∷ words) = asked_then (λ r. asked_from r words) (taken reading word)
 
 -- what words ask for
-abbrev pub asked_by : List (List ℕ) → Asked
-asked_by words = asked_from (record { options = no_options; waiting = None }) words
+abbrev pub asked_for : List (List ℕ) → Asked
+asked_for words = asked_from (record { options = no_options; waiting = None }) words
 
 -- ---- steps
 
--- what stops is what is asked for; want of memory may always stop
+-- what stops is want of memory, or what is asked for
 abbrev pub IsStop : {A : Type 0} → Result A Asked → Stop → Type 0
-IsStop wanted stop.OutOfMemory = ⊤
-IsStop wanted (stop.Asked asked) = wanted ≡ Err asked
+IsStop wanted told =
+    (told ≡ stop.OutOfMemory)
+    ⊎ ((asked : Asked) × (told ≡ stop.Asked asked) × (wanted ≡ Err asked))

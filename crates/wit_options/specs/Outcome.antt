@@ -5,9 +5,9 @@ use Rattle.wit_options.specs.declared.outcome.Outcome.{Outcome}
 use Rattle.wit_options.specs.declared.outcome.Outcome.TheVariants as outcome
 
 -- what goes to standard output
-abbrev pub answer_of : Outcome → Option (List ℕ)
-answer_of (outcome.Done text) = Some text
-answer_of _ = None
+abbrev pub written_answer : Outcome → Option (List ℕ)
+written_answer (outcome.Done text) = Some text
+written_answer _ = None
 
 -- what goes to standard error where the answer isn't written
 abbrev pub complaint_of : Outcome → List ℕ
@@ -22,5 +22,5 @@ failure_of (outcome.Usage text) = 2
 failure_of _ = 1
 
 -- a text is written behind known bytes, or the writer has failed
-abbrev pub IsTold : Option (List ℕ) → Option (List ℕ) → Bool → List ℕ → Type 0
-IsTold old new has_failed text = Appends old new text ⊎ (has_failed ≡ true)
+abbrev pub IsWritten : Option (List ℕ) → Option (List ℕ) → Bool → List ℕ → Type 0
+IsWritten old new has_failed text = Appends old new text ⊎ (has_failed ≡ true)

@@ -1,6 +1,6 @@
 //! From the words behind a program's name to what they ask for.
 ghost use Rattle.std.specs.Prelude.{◌≡◌, ◌⊎◌, ◌++◌, None, Ok, false, true, IfErr, IfOk, OnOk, map, string_bytes};
-ghost use Rattle.wit_options.specs.Arguments.{IsStop, asked_by, ended, exportizing, is_read_again, joined_outputs, mangling_named, no_options, not_a_value, output_named, parts_of, path_kind, reads_input, taken, taken_as, track_rule_named, twice, valued_named, with_merge, with_output, with_path, with_track_rule, with_turn, with_value, with_world, word_kind, word_of};
+ghost use Rattle.wit_options.specs.Arguments.{IsStop, asked_for, ended, exportizing, is_read_again, joined_outputs, mangling_named, no_options, not_a_value, output_named, parts_of, path_kind, reads_input, taken, taken_as, track_rule_named, twice, valued_named, with_merge, with_output, with_path, with_track_rule, with_turn, with_option, asking_about, word_kind, option_word};
 ghost use Rattle.wit_options.specs.declared.arguments.Stop.TheVariants as stop;
 
 use crate::options::{Options, Output, Turn};
@@ -75,8 +75,8 @@ impl From<UsageFault> for Stop {
 }
 
 /// What words ask for. The only error is want of memory.
-pub fn asked_by(alloc: Global, words: &[String]) -> Result<Asked, AllocError>
-    ensures { IfOk result (λ asked. asked ≡ asked_by (map string_bytes words.now)) }
+pub fn asked_for(alloc: Global, words: &[String]) -> Result<Asked, AllocError>
+    ensures { IfOk result (λ asked. asked ≡ asked_for (map string_bytes words.now)) }
 {
     let mut reading = Reading::new(alloc);
     for word in words {
@@ -138,8 +138,10 @@ impl Reading {
     /// Takes a word that is no value.
     fn begin(&mut self, alloc: Global, word: &str) -> Result<(), Stop>
         requires { self.old.waiting ≡ None }
-        ensures ok { OnOk result (taken_as self.old.options (word_kind word.now) word.now ≡ Ok self.new) }
-        ensures stop { IfErr result (IsStop (taken_as self.old.options (word_kind word.now) word.now)) }
+        ensures ok { OnOk result
+            (taken_as self.old.options (word_kind word.now) word.now ≡ Ok self.new) }
+        ensures stop { IfErr result
+            (IsStop (taken_as self.old.options (word_kind word.now) word.now)) }
     {
         match word_kind(word) {
             WordKind::Path => self.options.add_path(alloc, word),
@@ -224,7 +226,7 @@ fn output_named(word: &str) -> Option<Output>
 
 impl Valued {
     fn word(self) -> &'static str
-        ensures { result.now ≡ word_of self }
+        ensures { result.now ≡ option_word self }
     {
         match self {
             Valued::World => "--world",
@@ -251,7 +253,9 @@ impl Options {
     /// Refuses to read standard input twice.
     fn check_path(&self, alloc: Global, path: &str) -> Result<(), Stop>
         ensures ok { OnOk result (is_read_again self.now path.now ≡ false) }
-        ensures stop { IfErr result (λ stop. (stop ≡ stop.OutOfMemory) ⊎ ((is_read_again self.now path.now ≡ true) × (stop ≡ stop.Asked (twice path.now)))) }
+        ensures stop { IfErr result (λ told. (told ≡ stop.OutOfMemory)
+            ⊎ ((is_read_again self.now path.now ≡ true)
+            × (told ≡ stop.Asked (twice path.now)))) }
     {
         if path == "-" && self.reads_input() {
             return Err(Stop::from(UsageFault::Twice(Text::try_from_str(alloc, path)?)));
@@ -279,8 +283,8 @@ impl Options {
 
     /// Takes the value of an option.
     fn set(&mut self, alloc: Global, option: Valued, value: &str) -> Result<(), Stop>
-        ensures ok { OnOk result (with_value self.old option value.now ≡ Ok self.new) }
-        ensures stop { IfErr result (IsStop (with_value self.old option value.now)) }
+        ensures ok { OnOk result (with_option self.old option value.now ≡ Ok self.new) }
+        ensures stop { IfErr result (IsStop (with_option self.old option value.now)) }
     {
         match option {
             Valued::World => self.set_world(alloc, value),
@@ -301,15 +305,15 @@ impl Options {
 
     fn turn(&mut self, turn: Turn) -> Result<(), Stop>
         ensures ok { OnOk result (self.new ≡ with_turn self.old turn) }
-        ensures stop { IfErr result (λ stop. stop ≡ stop.OutOfMemory) }
+        ensures stop { IfErr result (λ told. told ≡ stop.OutOfMemory) }
     {
         self.turns.push(turn)?;
         Ok(())
     }
 
     fn set_world(&mut self, alloc: Global, world: &str) -> Result<(), Stop>
-        ensures ok { OnOk result (with_world self.old world.now ≡ Ok self.new) }
-        ensures stop { IfErr result (IsStop (with_world self.old world.now)) }
+        ensures ok { OnOk result (asking_about self.old world.now ≡ Ok self.new) }
+        ensures stop { IfErr result (IsStop (asking_about self.old world.now)) }
     {
         if self.world.is_some() {
             return Err(twice(alloc, "--world")?);
@@ -319,8 +323,9 @@ impl Options {
     }
 
     fn add_features(&mut self, alloc: Global, features: &str) -> Result<(), Stop>
-        ensures ok { OnOk result (self.new ≡ record self.old { features = self.old.features ++ parts_of features.now }) }
-        ensures stop { IfErr result (λ stop. stop ≡ stop.OutOfMemory) }
+        ensures ok { OnOk result (self.new
+            ≡ record self.old { features = self.old.features ++ parts_of features.now }) }
+        ensures stop { IfErr result (λ told. told ≡ stop.OutOfMemory) }
     {
         let features = texts_between(alloc, features)?;
         self.features.append(features)?;
@@ -328,8 +333,10 @@ impl Options {
     }
 
     fn set_track_rule(&mut self, alloc: Global, name: &str) -> Result<(), Stop>
-        ensures ok { OnOk result (with_track_rule self.old (track_rule_named name.now) name.now ≡ Ok self.new) }
-        ensures stop { IfErr result (IsStop (with_track_rule self.old (track_rule_named name.now) name.now)) }
+        ensures ok { OnOk result
+            (with_track_rule self.old (track_rule_named name.now) name.now ≡ Ok self.new) }
+        ensures stop { IfErr result
+            (IsStop (with_track_rule self.old (track_rule_named name.now) name.now)) }
     {
         let Some(rule) = track_rule_named(name) else {
             return Err(not_a_value(alloc, Valued::TrackRule, name)?);
@@ -367,13 +374,13 @@ fn joined_outputs(before: Option<Output>, output: Output) -> Option<Output>
 }
 
 fn twice(alloc: Global, word: &str) -> Result<Stop, AllocError>
-    ensures { IfOk result (λ stop. stop ≡ stop.Asked (twice word.now)) }
+    ensures { IfOk result (λ told. told ≡ stop.Asked (twice word.now)) }
 {
     Ok(Stop::from(UsageFault::Twice(Text::try_from_str(alloc, word)?)))
 }
 
 fn not_a_value(alloc: Global, option: Valued, value: &str) -> Result<Stop, AllocError>
-    ensures { IfOk result (λ stop. stop ≡ stop.Asked (not_a_value option value.now)) }
+    ensures { IfOk result (λ told. told ≡ stop.Asked (not_a_value option value.now)) }
 {
     Ok(Stop::from(UsageFault::NotAValue {
         option: Text::try_from_str(alloc, option.word())?,

@@ -7,7 +7,7 @@ mod options;
 mod outcome;
 mod usage;
 
-pub use crate::arguments::{Asked, asked_by};
+pub use crate::arguments::{Asked, asked_for};
 pub use crate::options::{Options, Output, Turn};
 pub use crate::outcome::{Outcome, deliver, or_memory};
 pub use crate::usage::{HINT, USAGE, UsageFault};

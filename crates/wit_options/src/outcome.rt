@@ -1,7 +1,8 @@
 //! What comes of a call of the program: what is written where, and the status.
 ghost use Rattle.std.specs.Prelude.{◌≡◌, ◌⊎◌, Err, List, None, Ok, Some, ℕ, codes, true};
 ghost use Rattle.std.specs.Io.KnownBytes.{Appends};
-ghost use Rattle.wit_options.specs.Outcome.{IsTold, answer_of, complaint_of, failure_of};
+ghost use Rattle.wit_options.specs.declared.outcome.Outcome.TheVariants as ends;
+ghost use Rattle.wit_options.specs.Outcome.{IsWritten, written_answer, complaint_of, failure_of};
 
 use std::alloc::AllocError;
 use std::io::Write;
@@ -37,14 +38,14 @@ pub fn deliver<W: Write, E: Write>(
     errors: &mut Watched<E>,
 ) -> u8
     ensures status { (result ≡ 0) ⊎ (result ≡ failure_of outcome.now) }
-    ensures done { result ≡ 0 → (text : List ℕ) × (answer_of outcome.now ≡ Some text)
+    ensures done { result ≡ 0 → (text : List ℕ) × (written_answer outcome.now ≡ Some text)
         × Appends (W.contents output.old.inner) (W.contents output.new.inner) text }
     ensures quiet { result ≡ 0 → errors.new ≡ errors.old }
-    ensures silent { answer_of outcome.now ≡ None → output.new ≡ output.old }
+    ensures silent { written_answer outcome.now ≡ None → output.new ≡ output.old }
     ensures unwritten { result ≡ failure_of outcome.now
-        → (answer_of outcome.now ≡ None) ⊎ (output.new.failed ≡ true) }
+        → (written_answer outcome.now ≡ None) ⊎ (output.new.failed ≡ true) }
     ensures told { result ≡ failure_of outcome.now
-        → IsTold (E.contents errors.old.inner) (E.contents errors.new.inner) errors.new.failed
+        → IsWritten (E.contents errors.old.inner) (E.contents errors.new.inner) errors.new.failed
         (complaint_of outcome.now) }
 {
     match outcome {
@@ -76,7 +77,7 @@ fn deliver_answer<W: Write, E: Write>(
     ensures quiet { result ≡ 0 → errors.new ≡ errors.old }
     ensures unwritten { result ≡ 1 → output.new.failed ≡ true }
     ensures told { result ≡ 1
-        → IsTold (E.contents errors.old.inner) (E.contents errors.new.inner) errors.new.failed
+        → IsWritten (E.contents errors.old.inner) (E.contents errors.new.inner) errors.new.failed
         (codes "wit: the output can't be written\n") }
 {
     match write_all(output, text) {
@@ -90,7 +91,7 @@ fn deliver_answer<W: Write, E: Write>(
 
 /// Writes a text where it can.
 fn tell<E: Write>(text: &str, errors: &mut Watched<E>)
-    ensures { IsTold (E.contents errors.old.inner) (E.contents errors.new.inner) errors.new.failed
+    ensures { IsWritten (E.contents errors.old.inner) (E.contents errors.new.inner) errors.new.failed
         text.now }
 {
     let _is_told = write_all(errors, text);
@@ -98,8 +99,8 @@ fn tell<E: Write>(text: &str, errors: &mut Watched<E>)
 
 /// What comes of a call that may lack memory.
 pub fn or_memory(made: Result<Outcome, AllocError>) -> Outcome
-    ensures made { (outcome : Outcome) → made ≡ Ok outcome → result ≡ outcome }
-    ensures memory { (error : AllocError) → made ≡ Err error → result ≡ outcome.OutOfMemory }
+    ensures made { (it : Outcome) → made ≡ Ok it → result ≡ it }
+    ensures memory { (error : AllocError) → made ≡ Err error → result ≡ ends.OutOfMemory }
 {
     match made {
         Ok(outcome) => outcome,
