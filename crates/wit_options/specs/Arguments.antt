@@ -116,11 +116,13 @@ twice word = asked.Fault (fault.Twice word)
 abbrev pub not_a_value : Valued → List ℕ → Asked
 not_a_value option value = asked.Fault (fault.NotAValue (option_word option) value)
 
+-- one of some paths is standard input
+abbrev pub has_input : List (List ℕ) → Bool
+has_input paths = list_any (λ path. bytes_eq path (codes "-")) paths
+
 -- standard input is read
 abbrev pub reads_input : Options → Bool
-reads_input o =
-    list_any (λ path. bytes_eq path (codes "-")) o.paths
-    || list_any (λ path. bytes_eq path (codes "-")) o.merges
+reads_input o = has_input o.paths || has_input o.merges
 
 -- standard input is read once
 abbrev pub is_read_again : Options → List ℕ → Bool

@@ -1,6 +1,6 @@
 //! From the words behind a program's name to what they ask for.
 ghost use Rattle.std.specs.Prelude.{◌≡◌, ◌⊎◌, ◌++◌, None, Ok, false, true, IfErr, IfOk, OnOk, map, string_bytes};
-ghost use Rattle.wit_options.specs.Arguments.{IsStop, asked_for, ended, exportizing, is_read_again, joined_outputs, mangling_named, no_options, not_a_value, output_named, parts_of, path_kind, reads_input, taken, taken_as, track_rule_named, twice, valued_named, with_merge, with_output, with_path, with_track_rule, with_turn, with_option, asking_about, word_kind, option_word};
+ghost use Rattle.wit_options.specs.Arguments.{IsStop, asked_for, ended, exportizing, has_input, is_read_again, joined_outputs, mangling_named, no_options, not_a_value, output_named, parts_of, path_kind, reads_input, taken, taken_as, track_rule_named, twice, valued_named, with_merge, with_output, with_path, with_track_rule, with_turn, with_option, asking_about, word_kind, option_word};
 ghost use Rattle.wit_options.specs.declared.arguments.Stop.TheVariants as stop;
 
 use crate::options::{Options, Output, Turn};
@@ -246,8 +246,7 @@ impl Options {
     fn reads_input(&self) -> bool
         ensures { result ≡ reads_input self.now }
     {
-        self.paths.iter().any(|path| path.as_str() == "-")
-            || self.merges.iter().any(|path| path.as_str() == "-")
+        has_input(self.paths.as_slice()) || has_input(self.merges.as_slice())
     }
 
     /// Refuses to read standard input twice.
@@ -359,6 +358,13 @@ impl Options {
         self.output = Some(output);
         Ok(())
     }
+}
+
+/// Whether one of some paths is standard input.
+fn has_input(paths: &[Text]) -> bool
+    ensures { result ≡ has_input paths.now }
+{
+    paths.iter().any(|path| path.as_str() == "-")
 }
 
 /// Both outputs as one, where they can be.
