@@ -180,8 +180,8 @@ fn result_ok(draft: &Draft, ty: Type_) -> Option<Option<Type_>> {
     let Type_::Id(id) = ty else {
         return None;
     };
-    match draft.types.get(id.index())?.kind {
-        TypeDefKind::Result_ { ok, .. } => Some(ok),
+    match &draft.types.get(id.index())?.kind {
+        TypeDefKind::Result_ { ok, .. } => Some(*ok),
         _ => None,
     }
 }

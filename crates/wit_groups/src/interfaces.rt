@@ -45,8 +45,7 @@ impl<'a> Context<'a> {
             package: None,
             span: written.name.span,
         };
-        let ScopeDraft { names, .. } = scope;
-        draft.set_interface(id, interface, names);
+        draft.set_interface(id, interface, scope.into_names());
         Ok(())
     }
 

@@ -72,6 +72,16 @@ impl<'a> ScopeDraft<'a> {
         }
     }
 
+    /// What its names stand for.
+    pub fn into_names(self) -> Names<Named> {
+        let ScopeDraft {
+            names,
+            context: _,
+            owner: _,
+        } = self;
+        names
+    }
+
     /// Says what a name stands for, which stands for nothing yet.
     pub fn define(&mut self, name: Piece, named: Named) -> Result<(), Fault> {
         let key = String::from_str(self.context.alloc, self.context.text(name))?;
