@@ -98,6 +98,22 @@ impl Draft {
         }
     }
 
+    /// Whether a type is a resource.
+    pub fn is_resource(&self, id: TypeId) -> bool {
+        match self.types.get(id.index()) {
+            Some(def) => matches!(def.kind, TypeDefKind::Resource),
+            None => false,
+        }
+    }
+
+    /// Whether a type is one of another package.
+    pub fn is_unknown(&self, id: TypeId) -> bool {
+        match self.types.get(id.index()) {
+            Some(def) => matches!(def.kind, TypeDefKind::Unknown),
+            None => false,
+        }
+    }
+
     /// What a name of an interface stands for, None where it is no name of it.
     pub fn name_in(&self, id: InterfaceId, name: &str) -> Option<Named> {
         let names = self.names.get(id.index())?;

@@ -3,7 +3,7 @@
 use crate::fault::{Fault, GroupFaultKind, RuleFault};
 use std::alloc::{AllocError, Global};
 use wit_data::{Docs, Stability, Text, Version};
-use wit_text::syntax::{AttributeKind, Gate, Piece};
+use wit_text::syntax::{Attribute, AttributeKind, Gate, Piece};
 use wit_text::{Comments, ReadFaultKind};
 
 /// What most things may have.
@@ -56,25 +56,35 @@ fn check_external_ids(gate: &Gate, may_have_id: bool) -> Result<(), Fault> {
 
 /// Whether the attributes that aren't external ids are none, `since` or `unstable`, or one of these and `deprecated`.
 fn check_gates(gate: &Gate) -> Result<(), Fault> {
-    let mut first = None;
-    let mut second = None;
-    let mut has_third = false;
-    for attribute in gate.attributes.iter() {
-        if attribute.kind != AttributeKind::ExternalId {
-            has_third = second.is_some();
-            second = second.or(first.and(Some(*attribute)));
-            first = first.or(Some(*attribute));
-        }
-    }
-    match (first, second) {
-        (Some(first), None) if first.kind == AttributeKind::Deprecated => {
+    let Some(first) = nth_gate(gate, 0) else {
+        return Ok(());
+    };
+    match nth_gate(gate, 1) {
+        None if first.kind == AttributeKind::Deprecated => {
             Err(Fault::rule(first.span, RuleFault::DeprecatedAlone))
         }
-        (Some(first), Some(second)) if has_third || !go_together(first.kind, second.kind) => {
+        None => Ok(()),
+        Some(second) => {
+            if nth_gate(gate, 2).is_none() && go_together(first.kind, second.kind) {
+                return Ok(());
+            }
             Err(Fault::rule(second.span, RuleFault::UnsupportedAttributes))
         }
-        _ => Ok(()),
     }
+}
+
+/// Of the attributes that aren't external ids the one behind so many others.
+fn nth_gate(gate: &Gate, count: usize) -> Option<Attribute> {
+    let mut before: usize = 0;
+    for attribute in gate.attributes.iter() {
+        if attribute.kind != AttributeKind::ExternalId {
+            if before == count {
+                return Some(*attribute);
+            }
+            before = before.saturating_add(1);
+        }
+    }
+    None
 }
 
 /// Whether one of two attributes says since when a thing is deprecated, and the other doesn't.

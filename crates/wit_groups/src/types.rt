@@ -153,14 +153,12 @@ impl<'a> ScopeDraft<'a> {
     fn resource(&self, draft: &mut Draft, name: Piece) -> Result<TypeId, Fault> {
         let id = self.named_type(name)?;
         let root = draft.root(id);
-        match draft.types.get(root.index()) {
-            Some(def) if matches!(def.kind, TypeDefKind::Resource) => Ok(id),
-            Some(def) if matches!(def.kind, TypeDefKind::Unknown) => {
-                draft.required_resource_types.push((root, name.span))?;
-                Ok(id)
-            }
-            _ => Err(self.context.name_fault(name, NameFault::NoResource)),
+        if draft.is_unknown(root) {
+            draft.required_resource_types.push((root, name.span))?;
+        } else if !draft.is_resource(root) {
+            return Err(self.context.name_fault(name, NameFault::NoResource));
         }
+        Ok(id)
     }
 
     /// A record with these fields.
