@@ -2,7 +2,7 @@
 
 use crate::draft::{Draft, ForeignNames, Named};
 use crate::fault::{Fault, NameFault};
-use crate::gates::{check_attributes, stability};
+use crate::gates::{check_attributes, stability_of};
 use crate::mentions::{Mention, MentionKind};
 use crate::names::Directory;
 use crate::package_names::{bare_span, package_name};
@@ -32,7 +32,7 @@ impl Draft {
     ) -> Result<(), Fault> {
         check_attributes(mention.gate, true)?;
         let source = mention.part.source;
-        let gate = stability(self.allocator(), source, mention.gate)?;
+        let gate = stability_of(self.allocator(), source, mention.gate)?;
         let name = package_name(self.allocator(), source, package)?;
         let place = match self.foreign_deps.get_index_of(&name) {
             Some(place) => place,
@@ -133,7 +133,7 @@ impl Draft {
         if found.package.is_none() {
             return Ok(());
         }
-        let gate = stability(self.allocator(), source, mention.gate)?;
+        let gate = stability_of(self.allocator(), source, mention.gate)?;
         for renaming in names {
             self.add_unknown_type(id, source, *renaming, &gate)?;
         }

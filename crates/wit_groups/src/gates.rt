@@ -15,15 +15,15 @@ pub(crate) struct Common {
 }
 
 /// What stands before a thing of a file with this text.
-pub(crate) fn common(
+pub(crate) fn common_of(
     alloc: Global,
     source: &str,
     gate: &Gate,
     may_have_id: bool,
 ) -> Result<Common, Fault> {
     check_attributes(gate, may_have_id)?;
-    let stability = stability(alloc, source, gate)?;
-    let docs = docs(alloc, source, gate.docs)?;
+    let stability = stability_of(alloc, source, gate)?;
+    let docs = docs_of(alloc, source, gate.docs)?;
     let external_id = external_id(alloc, source, gate)?;
     Ok(Common {
         docs,
@@ -93,7 +93,7 @@ fn go_together(first: AttributeKind, second: AttributeKind) -> bool {
 }
 
 /// The gate of a statement. An `unstable` goes before a `since`.
-pub(crate) fn stability(alloc: Global, source: &str, gate: &Gate) -> Result<Stability, Fault> {
+pub(crate) fn stability_of(alloc: Global, source: &str, gate: &Gate) -> Result<Stability, Fault> {
     if let Some(feature) = value(gate, AttributeKind::Unstable) {
         let deprecated = deprecated(alloc, source, gate)?;
         let feature = Text::try_from_str(alloc, feature.text(source))?;
@@ -104,7 +104,7 @@ pub(crate) fn stability(alloc: Global, source: &str, gate: &Gate) -> Result<Stab
     }
     match value(gate, AttributeKind::Since) {
         Some(since) => {
-            let since = version(alloc, source, since)?;
+            let since = version_of(alloc, source, since)?;
             let deprecated = deprecated(alloc, source, gate)?;
             Ok(Stability::Stable { since, deprecated })
         }
@@ -115,7 +115,7 @@ pub(crate) fn stability(alloc: Global, source: &str, gate: &Gate) -> Result<Stab
 /// Since when a thing is deprecated.
 fn deprecated(alloc: Global, source: &str, gate: &Gate) -> Result<Option<Version>, Fault> {
     match value(gate, AttributeKind::Deprecated) {
-        Some(piece) => Ok(Some(version(alloc, source, piece)?)),
+        Some(piece) => Ok(Some(version_of(alloc, source, piece)?)),
         None => Ok(None),
     }
 }
@@ -139,7 +139,7 @@ fn value(gate: &Gate, kind: AttributeKind) -> Option<Piece> {
 }
 
 /// The version that a piece of a text is.
-pub(crate) fn version(alloc: Global, source: &str, piece: Piece) -> Result<Version, Fault> {
+pub(crate) fn version_of(alloc: Global, source: &str, piece: Piece) -> Result<Version, Fault> {
     match Version::parse(alloc, piece.text(source)) {
         Ok(version) => Ok(version),
         Err(error) if error == semver::Error::from(AllocError) => Err(Fault::OutOfMemory),
@@ -151,7 +151,7 @@ pub(crate) fn version(alloc: Global, source: &str, piece: Piece) -> Result<Versi
 }
 
 /// The documentation in comments of a text.
-pub(crate) fn docs(
+pub(crate) fn docs_of(
     alloc: Global,
     source: &str,
     comments: Option<Comments>,

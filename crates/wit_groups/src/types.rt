@@ -2,7 +2,7 @@
 
 use crate::draft::Draft;
 use crate::fault::{Fault, NameFault, RuleFault};
-use crate::gates::docs;
+use crate::gates::docs_of;
 use crate::scope::{Context, ScopeDraft};
 use std::alloc::AllocError;
 use wit_data::{
@@ -51,7 +51,7 @@ impl<'a> Context<'a> {
 
     /// The documentation of a member.
     fn member_docs(&self, member: &Member) -> Result<Docs, AllocError> {
-        docs(self.alloc, self.part.source, member.docs)
+        docs_of(self.alloc, self.part.source, member.docs)
     }
 }
 
