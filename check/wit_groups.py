@@ -65,13 +65,16 @@ def found(line):
 
 def groups(asked):
     """The files of each group, with its name."""
-    known = [wit.opened(it).text for it in sorted(map(str, (TOP / "examples").rglob("*.wit")))]
+    paths = sorted((TOP / "examples").rglob("*.wit"))
+    known = [wit.opened(str(it)).text for it in paths]
     for path in asked.files:
         yield path, {"p.wit": wit.opened(path).text}
     if asked.files:
         return
-    for n, text in enumerate(known):
-        yield f"example {n}", {"p.wit": text}
+    for path, text in zip(paths, known):
+        yield f"{path}", {"p.wit": text}
+    for folder in sorted({it.parent for it in paths}):
+        yield f"{folder}", {it.name: text for it, text in zip(paths, known) if it.parent == folder}
     for n in range(asked.first, asked.first + asked.many):
         yield f"written {n}", {"p.wit": wit_writer.written(n)}
         yield f"gentle {n}", {"p.wit": wit_writer.gentle(n)}

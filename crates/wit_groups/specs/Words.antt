@@ -88,18 +88,18 @@ rule_text rule.ConstructorOk = codes "the `ok` type must be the resource being c
 rule_text rule.MissingPart = codes "a part of this type isn't there"
 
 -- what a fault says, where `wit_text` says it
-abbrev pub kind_text : GroupFaultKind → Option (List ℕ)
-kind_text (fault.Syntax f) = read_fault_text f
-kind_text (fault.Name f n) =
+abbrev pub group_fault_text : GroupFaultKind → Option (List ℕ)
+group_fault_text (fault.Syntax f) = read_fault_text f
+group_fault_text (fault.Name f n) =
     Some (before_name f ++ (codes "`" ++ (n ++ (codes "`" ++ behind_name f))))
-kind_text (fault.Rule f) = Some (rule_text f)
-kind_text (fault.OtherPackage n previous) =
+group_fault_text (fault.Rule f) = Some (rule_text f)
+group_fault_text (fault.OtherPackage n previous) =
     Some (codes "package identifier `" ++ (package_name_text n
     ++ (codes "` does not match previous package name of `" ++ (package_name_text previous
     ++ codes "`"))))
-kind_text (fault.Shape f) = Some (codes "this package can't be pushed: " ++ fault_text f)
+group_fault_text (fault.Shape f) = Some (codes "this package can't be pushed: " ++ fault_text f)
 
 -- the same of what isn't read
-abbrev pub unread_text : GroupFault → Option (List ℕ)
-unread_text (group.Text source_map span f) = kind_text f
-unread_text group.OutOfMemory = Some (codes "out of memory")
+abbrev pub unread_group_text : GroupFault → Option (List ℕ)
+unread_group_text (group.Text source_map span f) = group_fault_text f
+unread_group_text group.OutOfMemory = Some (codes "out of memory")

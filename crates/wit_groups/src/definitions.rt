@@ -2,7 +2,7 @@
 
 use crate::draft::{Draft, Named};
 use crate::fault::{Fault, NameFault, RuleFault};
-use crate::gates::common;
+use crate::gates::common_of;
 use crate::order::{Need, Sorted, in_order};
 use crate::scope::{Context, ScopeDraft};
 use crate::written::TypeStatement;
@@ -51,7 +51,7 @@ impl<'a> ScopeDraft<'a> {
         gate: &Gate,
         definition: &Definition,
     ) -> Result<(), Fault> {
-        let common = common(self.context.alloc, self.context.part.source, gate, true)?;
+        let common = common_of(self.context.alloc, self.context.part.source, gate, true)?;
         let kind = self.definition_kind(draft, definition, &common.stability)?;
         let name = self.context.copy(definition.name)?;
         let mut def = TypeDef::new(Some(name), kind, self.owner);
@@ -254,7 +254,7 @@ fn add_needs(
     for node in context.nodes(range) {
         match &node.kind {
             TypeNodeKind::Named(name) | TypeNodeKind::Own(name) | TypeNodeKind::Borrow(name) => {
-                needs.push(need(context, names, *name)?)?;
+                needs.push(need_of(context, names, *name)?)?;
             }
             _ => {}
         }
@@ -263,7 +263,7 @@ fn add_needs(
 }
 
 /// The need for the type of a name.
-fn need(context: &Context<'_>, names: &TypeNames, name: Piece) -> Result<Need, Fault> {
+fn need_of(context: &Context<'_>, names: &TypeNames, name: Piece) -> Result<Need, Fault> {
     let text = context.text(name);
     match names.numbers.get(text) {
         Some(number) => Ok(Need {

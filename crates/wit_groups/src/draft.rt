@@ -18,7 +18,6 @@ pub(crate) enum Named {
 
 /// What is made of a package so far. What it knows of other packages comes first in each list.
 pub(crate) struct Draft {
-    pub alloc: Global,
     pub worlds: Items<World>,
     pub interfaces: Items<Interface>,
     /// Of each interface what its names stand for.
@@ -38,7 +37,6 @@ impl Draft {
     /// Nothing, which takes no memory.
     pub fn new(alloc: Global) -> Draft {
         Draft {
-            alloc,
             worlds: Items::new(alloc),
             interfaces: Items::new(alloc),
             names: Items::new(alloc),
@@ -52,6 +50,11 @@ impl Draft {
         }
     }
 
+    /// The allocator that it was made with.
+    pub fn allocator(&self) -> Global {
+        self.worlds.allocator()
+    }
+
     /// Adds an interface of which the name alone is known, None where it has none. The only error is want of memory.
     pub fn add_interface(
         &mut self,
@@ -59,17 +62,17 @@ impl Draft {
         span: Span,
     ) -> Result<InterfaceId, AllocError> {
         let id = InterfaceId::from_index(self.interfaces.len());
-        let mut interface = Interface::new(self.alloc, name);
+        let mut interface = Interface::new(self.allocator(), name);
         interface.span = span;
         self.interfaces.push(interface)?;
-        self.names.push(Names::new(self.alloc))?;
+        self.names.push(Names::new(self.allocator()))?;
         Ok(id)
     }
 
     /// Adds a world of which the name alone is known. The only error is want of memory.
     pub fn add_world(&mut self, name: Text, span: Span) -> Result<WorldId, AllocError> {
         let id = WorldId::from_index(self.worlds.len());
-        let mut world = World::new(self.alloc, name);
+        let mut world = World::new(self.allocator(), name);
         world.span = span;
         self.worlds.push(world)?;
         Ok(id)
@@ -92,6 +95,22 @@ impl Draft {
         match self.roots.get(id.index()) {
             Some(root) => *root,
             None => id,
+        }
+    }
+
+    /// Whether a type is a resource.
+    pub fn is_resource(&self, id: TypeId) -> bool {
+        match self.types.get(id.index()) {
+            Some(def) => matches!(def.kind, TypeDefKind::Resource),
+            None => false,
+        }
+    }
+
+    /// Whether a type is one of another package.
+    pub fn is_unknown(&self, id: TypeId) -> bool {
+        match self.types.get(id.index()) {
+            Some(def) => matches!(def.kind, TypeDefKind::Unknown),
+            None => false,
         }
     }
 
@@ -133,7 +152,6 @@ impl Draft {
             foreign_dep_spans,
             unknown_type_spans,
             required_resource_types,
-            ..
         } = self;
         drop(names);
         drop(roots);
@@ -168,7 +186,6 @@ impl Drop for Draft {
             foreign_dep_spans,
             unknown_type_spans,
             required_resource_types,
-            ..
         } = self;
         drop(worlds);
         drop(interfaces);

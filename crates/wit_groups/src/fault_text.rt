@@ -1,12 +1,12 @@
 //! What faults say: the words of wit-parser.
 ghost use Rattle.std.specs.Prelude.{◌≡◌};
-ghost use Rattle.wit_groups.specs.Words.{before_name, behind_name, kind_text, rule_text, unread_text};
+ghost use Rattle.wit_groups.specs.Words.{before_name, behind_name, group_fault_text, rule_text, unread_group_text};
 
 use crate::fault::{EntrySide, EntrySort, GroupFault, GroupFaultKind, NameFault, RuleFault};
 use std::fmt;
 
 impl fmt::Display for GroupFault {
-    ghost output = { unread_text };
+    ghost output = { unread_group_text };
 
     fn fmt<W: fmt::Write>(&self, f: &mut fmt::Formatter<W>) -> fmt::Result {
         match self {
@@ -17,7 +17,7 @@ impl fmt::Display for GroupFault {
 }
 
 impl fmt::Display for GroupFaultKind {
-    ghost output = { kind_text };
+    ghost output = { group_fault_text };
 
     fn fmt<W: fmt::Write>(&self, f: &mut fmt::Formatter<W>) -> fmt::Result {
         match self {

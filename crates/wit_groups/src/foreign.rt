@@ -2,7 +2,7 @@
 
 use crate::draft::{Draft, ForeignNames, Named};
 use crate::fault::{Fault, NameFault};
-use crate::gates::{check_attributes, stability};
+use crate::gates::{check_attributes, stability_of};
 use crate::mentions::{Mention, MentionKind};
 use crate::names::Directory;
 use crate::package_names::{bare_span, package_name};
@@ -32,8 +32,8 @@ impl Draft {
     ) -> Result<(), Fault> {
         check_attributes(mention.gate, true)?;
         let source = mention.part.source;
-        let gate = stability(self.alloc, source, mention.gate)?;
-        let name = package_name(self.alloc, source, package)?;
+        let gate = stability_of(self.allocator(), source, mention.gate)?;
+        let name = package_name(self.allocator(), source, package)?;
         let place = match self.foreign_deps.get_index_of(&name) {
             Some(place) => place,
             None => self.add_foreign_package(name, package)?,
@@ -54,7 +54,7 @@ impl Draft {
         let place = self.foreign_deps.len();
         if !self.foreign_deps.contains_key(&name) {
             self.foreign_dep_spans.push(bare_span(package))?;
-            self.foreign_deps.push(name, Names::new(self.alloc))?;
+            self.foreign_deps.push(name, Names::new(self.allocator()))?;
         }
         Ok(place)
     }
@@ -81,9 +81,12 @@ impl Draft {
         gate: Stability,
     ) -> Result<(), AllocError> {
         let item = self.add_foreign_scope(mention)?;
-        let mut gates = Items::new(self.alloc);
+        let mut gates = Items::new(self.allocator());
         gates.push(gate)?;
-        let key = String::from_str(self.alloc, mention.path.name.text(mention.part.source))?;
+        let key = String::from_str(
+            self.allocator(),
+            mention.path.name.text(mention.part.source),
+        )?;
         if place < self.foreign_deps.len() {
             add_new(self.foreign_deps.value_at_mut(place), key, (item, gates))?;
         }
@@ -93,7 +96,7 @@ impl Draft {
     /// Adds an interface or a world of which the name alone is known.
     fn add_foreign_scope(&mut self, mention: Mention<'_>) -> Result<AstItem, AllocError> {
         let piece = mention.path.name;
-        let name = Text::try_from_str(self.alloc, piece.text(mention.part.source))?;
+        let name = Text::try_from_str(self.allocator(), piece.text(mention.part.source))?;
         match mention.kind {
             MentionKind::World => Ok(AstItem::World(self.add_world(name, piece.span)?)),
             MentionKind::Use(_) | MentionKind::Interface => {
@@ -130,7 +133,7 @@ impl Draft {
         if found.package.is_none() {
             return Ok(());
         }
-        let gate = stability(self.alloc, source, mention.gate)?;
+        let gate = stability_of(self.allocator(), source, mention.gate)?;
         for renaming in names {
             self.add_unknown_type(id, source, *renaming, &gate)?;
         }
@@ -149,7 +152,7 @@ impl Draft {
         if self.name_in(id, text).is_some() {
             return Ok(());
         }
-        let name = Text::try_from_str(self.alloc, text)?;
+        let name = Text::try_from_str(self.allocator(), text)?;
         let owner = TypeOwner::Interface(id);
         let stability = gate.try_clone()?;
         let mut def = TypeDef::new(Some(name), TypeDefKind::Unknown, owner);
@@ -162,12 +165,12 @@ impl Draft {
 
     /// Gives a type its name in an interface of another package.
     fn name_type(&mut self, id: InterfaceId, name: &str, ty: TypeId) -> Result<(), AllocError> {
-        let key = String::from_str(self.alloc, name)?;
+        let key = String::from_str(self.allocator(), name)?;
         let index = id.index();
         if index < self.names.len() {
             add_new(self.names.at_mut(index), key, Named::Type_(ty))?;
         }
-        let key = String::from_str(self.alloc, name)?;
+        let key = String::from_str(self.allocator(), name)?;
         if index < self.interfaces.len() {
             add_new(&mut self.interfaces.at_mut(index).types, key, ty)?;
         }
@@ -186,7 +189,7 @@ impl Draft {
             AstItem::Interface(id) => Ok(id),
             AstItem::World(_) => {
                 let (span, name) = (path.name.span, path.name.text(source));
-                Err(Fault::name(self.alloc, span, NameFault::NotAnInterface, name))
+                Err(Fault::name(self.allocator(), span, NameFault::NotAnInterface, name))
             }
         }
     }
@@ -203,7 +206,7 @@ impl Draft {
             AstItem::World(id) => Ok(id),
             AstItem::Interface(_) => {
                 let (span, name) = (path.name.span, path.name.text(source));
-                Err(Fault::name(self.alloc, span, NameFault::NotAWorld, name))
+                Err(Fault::name(self.allocator(), span, NameFault::NotAWorld, name))
             }
         }
     }
@@ -219,14 +222,17 @@ impl Draft {
         let found = directory.resolved(file, source, path);
         let name = found.name.text(source);
         let item = match found.package {
-            Some(package) => self.foreign_item(&package_name(self.alloc, source, package)?, name),
+            Some(package) => self.foreign_item(
+                &package_name(self.allocator(), source, package)?,
+                name,
+            ),
             None => directory.item(name),
         };
         match item {
             Some(item) => Ok(item),
             None => {
                 let (span, name) = (path.name.span, path.name.text(source));
-                Err(Fault::name(self.alloc, span, NameFault::NoItem, name))
+                Err(Fault::name(self.allocator(), span, NameFault::NoItem, name))
             }
         }
     }

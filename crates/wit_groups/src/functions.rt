@@ -2,7 +2,7 @@
 
 use crate::draft::Draft;
 use crate::fault::{Fault, NameFault, RuleFault};
-use crate::gates::common;
+use crate::gates::common_of;
 use crate::scope::{Context, ScopeDraft};
 use std::alloc::AllocError;
 use wit_data::{
@@ -67,9 +67,9 @@ impl<'a> ScopeDraft<'a> {
         head: Head,
         signature: &Signature,
     ) -> Result<Function, Fault> {
-        let common = common(self.context.alloc, self.context.part.source, gate, true)?;
+        let common = common_of(self.context.alloc, self.context.part.source, gate, true)?;
         let params = self.params(draft, head.kind, head.span, signature)?;
-        let result_ = self.result(draft, head.kind, signature.result)?;
+        let result_ = self.function_result(draft, head.kind, signature.result)?;
         let mut function = Function::new(head.name, head.kind, params, result_);
         function.docs = common.docs;
         function.stability = common.stability;
@@ -132,7 +132,7 @@ impl<'a> ScopeDraft<'a> {
     }
 
     /// The result of a function of this kind. A constructor makes its resource, perhaps within a `result`.
-    fn result(
+    fn function_result(
         &self,
         draft: &mut Draft,
         kind: FunctionKind,
@@ -180,8 +180,8 @@ fn result_ok(draft: &Draft, ty: Type_) -> Option<Option<Type_>> {
     let Type_::Id(id) = ty else {
         return None;
     };
-    match draft.types.get(id.index())?.kind {
-        TypeDefKind::Result_ { ok, .. } => Some(ok),
+    match &draft.types.get(id.index())?.kind {
+        TypeDefKind::Result_ { ok, .. } => Some(*ok),
         _ => None,
     }
 }

@@ -3,7 +3,7 @@
 use crate::fault::{Fault, GroupFaultKind, RuleFault};
 use std::alloc::{AllocError, Global};
 use wit_data::{Docs, Stability, Text, Version};
-use wit_text::syntax::{AttributeKind, Gate, Piece};
+use wit_text::syntax::{Attribute, AttributeKind, Gate, Piece};
 use wit_text::{Comments, ReadFaultKind};
 
 /// What most things may have.
@@ -15,15 +15,15 @@ pub(crate) struct Common {
 }
 
 /// What stands before a thing of a file with this text.
-pub(crate) fn common(
+pub(crate) fn common_of(
     alloc: Global,
     source: &str,
     gate: &Gate,
     may_have_id: bool,
 ) -> Result<Common, Fault> {
     check_attributes(gate, may_have_id)?;
-    let stability = stability(alloc, source, gate)?;
-    let docs = docs(alloc, source, gate.docs)?;
+    let stability = stability_of(alloc, source, gate)?;
+    let docs = docs_of(alloc, source, gate.docs)?;
     let external_id = external_id(alloc, source, gate)?;
     Ok(Common {
         docs,
@@ -56,25 +56,35 @@ fn check_external_ids(gate: &Gate, may_have_id: bool) -> Result<(), Fault> {
 
 /// Whether the attributes that aren't external ids are none, `since` or `unstable`, or one of these and `deprecated`.
 fn check_gates(gate: &Gate) -> Result<(), Fault> {
-    let mut first = None;
-    let mut second = None;
-    let mut has_third = false;
-    for attribute in gate.attributes.iter() {
-        if attribute.kind != AttributeKind::ExternalId {
-            has_third = second.is_some();
-            second = second.or(first.and(Some(*attribute)));
-            first = first.or(Some(*attribute));
-        }
-    }
-    match (first, second) {
-        (Some(first), None) if first.kind == AttributeKind::Deprecated => {
+    let Some(first) = nth_gate(gate, 0) else {
+        return Ok(());
+    };
+    match nth_gate(gate, 1) {
+        None if first.kind == AttributeKind::Deprecated => {
             Err(Fault::rule(first.span, RuleFault::DeprecatedAlone))
         }
-        (Some(first), Some(second)) if has_third || !go_together(first.kind, second.kind) => {
+        None => Ok(()),
+        Some(second) => {
+            if nth_gate(gate, 2).is_none() && go_together(first.kind, second.kind) {
+                return Ok(());
+            }
             Err(Fault::rule(second.span, RuleFault::UnsupportedAttributes))
         }
-        _ => Ok(()),
     }
+}
+
+/// Of the attributes that aren't external ids the one behind so many others.
+fn nth_gate(gate: &Gate, count: usize) -> Option<Attribute> {
+    let mut before: usize = 0;
+    for attribute in gate.attributes.iter() {
+        if attribute.kind != AttributeKind::ExternalId {
+            if before == count {
+                return Some(*attribute);
+            }
+            before = before.saturating_add(1);
+        }
+    }
+    None
 }
 
 /// Whether one of two attributes says since when a thing is deprecated, and the other doesn't.
@@ -83,7 +93,7 @@ fn go_together(first: AttributeKind, second: AttributeKind) -> bool {
 }
 
 /// The gate of a statement. An `unstable` goes before a `since`.
-pub(crate) fn stability(alloc: Global, source: &str, gate: &Gate) -> Result<Stability, Fault> {
+pub(crate) fn stability_of(alloc: Global, source: &str, gate: &Gate) -> Result<Stability, Fault> {
     if let Some(feature) = value(gate, AttributeKind::Unstable) {
         let deprecated = deprecated(alloc, source, gate)?;
         let feature = Text::try_from_str(alloc, feature.text(source))?;
@@ -94,7 +104,7 @@ pub(crate) fn stability(alloc: Global, source: &str, gate: &Gate) -> Result<Stab
     }
     match value(gate, AttributeKind::Since) {
         Some(since) => {
-            let since = version(alloc, source, since)?;
+            let since = version_of(alloc, source, since)?;
             let deprecated = deprecated(alloc, source, gate)?;
             Ok(Stability::Stable { since, deprecated })
         }
@@ -105,7 +115,7 @@ pub(crate) fn stability(alloc: Global, source: &str, gate: &Gate) -> Result<Stab
 /// Since when a thing is deprecated.
 fn deprecated(alloc: Global, source: &str, gate: &Gate) -> Result<Option<Version>, Fault> {
     match value(gate, AttributeKind::Deprecated) {
-        Some(piece) => Ok(Some(version(alloc, source, piece)?)),
+        Some(piece) => Ok(Some(version_of(alloc, source, piece)?)),
         None => Ok(None),
     }
 }
@@ -129,7 +139,7 @@ fn value(gate: &Gate, kind: AttributeKind) -> Option<Piece> {
 }
 
 /// The version that a piece of a text is.
-pub(crate) fn version(alloc: Global, source: &str, piece: Piece) -> Result<Version, Fault> {
+pub(crate) fn version_of(alloc: Global, source: &str, piece: Piece) -> Result<Version, Fault> {
     match Version::parse(alloc, piece.text(source)) {
         Ok(version) => Ok(version),
         Err(error) if error == semver::Error::from(AllocError) => Err(Fault::OutOfMemory),
@@ -141,7 +151,7 @@ pub(crate) fn version(alloc: Global, source: &str, piece: Piece) -> Result<Versi
 }
 
 /// The documentation in comments of a text.
-pub(crate) fn docs(
+pub(crate) fn docs_of(
     alloc: Global,
     source: &str,
     comments: Option<Comments>,

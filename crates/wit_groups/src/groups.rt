@@ -6,7 +6,7 @@ ghost use Rattle.wit_data.specs.Shape.{IsGroupShaped, IsShaped};
 ghost use Rattle.wit_groups.specs.Files.{HasFiles, source_map_of};
 
 use crate::fault::{Fault, GroupFault, GroupFaultKind, RuleFault};
-use crate::gates::docs;
+use crate::gates::docs_of;
 use crate::package_names::{package_name, package_span};
 use crate::packages::{PackageHead, make_package};
 use crate::sources::{Source, sources_by_path};
@@ -203,7 +203,7 @@ impl<'a> Reading<'a> {
             }
             self.has_comments = true;
         }
-        let docs = docs(self.alloc, source, header.docs)?;
+        let docs = docs_of(self.alloc, source, header.docs)?;
         self.set_head(name, span, docs);
         Ok(())
     }
@@ -281,7 +281,7 @@ fn nested_package(
     let head = PackageHead {
         name: package_name(alloc, source, package.name)?,
         span: package_span(package.name),
-        docs: docs(alloc, source, package.docs)?,
+        docs: docs_of(alloc, source, package.docs)?,
     };
     let part = Part {
         source,

@@ -2,7 +2,7 @@
 
 use crate::draft::{Draft, Named};
 use crate::fault::{Fault, NameFault};
-use crate::gates::{check_attributes, docs, stability};
+use crate::gates::{check_attributes, docs_of, stability_of};
 use crate::scope::{Context, ScopeDraft};
 use crate::tables::add_new;
 use crate::written::{Body, type_statements};
@@ -45,8 +45,7 @@ impl<'a> Context<'a> {
             package: None,
             span: written.name.span,
         };
-        let ScopeDraft { names, .. } = scope;
-        draft.set_interface(id, interface, names);
+        draft.set_interface(id, interface, scope.into_names());
         Ok(())
     }
 
@@ -54,8 +53,8 @@ impl<'a> Context<'a> {
     pub fn head(self, gate: &Gate, may_have_id: bool) -> Result<(Docs, Stability), Fault> {
         check_attributes(gate, may_have_id)?;
         let source = self.part.source;
-        let stability = stability(self.alloc, source, gate)?;
-        Ok((docs(self.alloc, source, gate.docs)?, stability))
+        let stability = stability_of(self.alloc, source, gate)?;
+        Ok((docs_of(self.alloc, source, gate.docs)?, stability))
     }
 
     /// The name of an interface, None of one that a world writes in place.

@@ -1,7 +1,7 @@
 //! Names of packages, as files write them.
 
 use crate::fault::Fault;
-use crate::gates::version;
+use crate::gates::version_of;
 use std::alloc::Global;
 use wit_data::{PackageName, Span, Text};
 use wit_text::syntax::PackagePath;
@@ -13,7 +13,7 @@ pub(crate) fn package_name(
     path: PackagePath,
 ) -> Result<PackageName, Fault> {
     let version = match path.version {
-        Some(piece) => Some(version(alloc, source, piece)?),
+        Some(piece) => Some(version_of(alloc, source, piece)?),
         None => None,
     };
     let namespace = Text::try_from_str(alloc, path.namespace.text(source))?;

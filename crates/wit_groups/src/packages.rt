@@ -53,7 +53,7 @@ fn draft_of(alloc: Global, parts: &[Part<'_>]) -> Result<Draft, Fault> {
 impl Draft {
     /// Adds an interface or a world of which the name alone is known.
     fn begin(&mut self, scope: &Scope<'_>) -> Result<AstItem, Fault> {
-        let name = Text::try_from_str(self.alloc, scope.name.text(scope.part.source))?;
+        let name = Text::try_from_str(self.allocator(), scope.name.text(scope.part.source))?;
         match scope.body {
             Body::Interface(_) => {
                 let id = self.add_interface(Some(name), scope.name.span)?;
@@ -92,7 +92,7 @@ impl Draft {
                     is_in_place: false,
                     statements,
                 };
-                context(self.alloc, directory, scope).make_interface(self, id, written)
+                context(self.allocator(), directory, scope).make_interface(self, id, written)
             }
             _ => Ok(()),
         }
@@ -121,7 +121,7 @@ impl Draft {
     ) -> Result<(), Fault> {
         match (scope.body, directory.item_at(number)) {
             (Body::World(statements), Some(AstItem::World(id))) => {
-                let context = context(self.alloc, directory, scope);
+                let context = context(self.allocator(), directory, scope);
                 context.make_world(self, id, scope.gate, scope.name, statements)
             }
             _ => Ok(()),

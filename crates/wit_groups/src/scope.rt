@@ -2,7 +2,7 @@
 
 use crate::draft::{Draft, Named};
 use crate::fault::{Fault, NameFault};
-use crate::gates::common;
+use crate::gates::common_of;
 use crate::names::Directory;
 use crate::written::Part;
 use std::alloc::{AllocError, Global};
@@ -72,6 +72,16 @@ impl<'a> ScopeDraft<'a> {
         }
     }
 
+    /// What its names stand for.
+    pub fn into_names(self) -> Names<Named> {
+        let ScopeDraft {
+            names,
+            context: _,
+            owner: _,
+        } = self;
+        names
+    }
+
     /// Says what a name stands for, which stands for nothing yet.
     pub fn define(&mut self, name: Piece, named: Named) -> Result<(), Fault> {
         let key = String::from_str(self.context.alloc, self.context.text(name))?;
@@ -101,7 +111,7 @@ impl<'a> ScopeDraft<'a> {
         used: &UseNames,
     ) -> Result<(), Fault> {
         let id = self.context.interface(draft, used.path)?;
-        let common = common(self.context.alloc, self.context.part.source, gate, false)?;
+        let common = common_of(self.context.alloc, self.context.part.source, gate, false)?;
         for renaming in used.names.iter() {
             self.use_name(draft, id, *renaming, &common.stability)?;
         }

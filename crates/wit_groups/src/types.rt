@@ -2,7 +2,7 @@
 
 use crate::draft::Draft;
 use crate::fault::{Fault, NameFault, RuleFault};
-use crate::gates::docs;
+use crate::gates::docs_of;
 use crate::scope::{Context, ScopeDraft};
 use std::alloc::AllocError;
 use wit_data::{
@@ -51,7 +51,7 @@ impl<'a> Context<'a> {
 
     /// The documentation of a member.
     fn member_docs(&self, member: &Member) -> Result<Docs, AllocError> {
-        docs(self.alloc, self.part.source, member.docs)
+        docs_of(self.alloc, self.part.source, member.docs)
     }
 }
 
@@ -153,14 +153,12 @@ impl<'a> ScopeDraft<'a> {
     fn resource(&self, draft: &mut Draft, name: Piece) -> Result<TypeId, Fault> {
         let id = self.named_type(name)?;
         let root = draft.root(id);
-        match draft.types.get(root.index()) {
-            Some(def) if matches!(def.kind, TypeDefKind::Resource) => Ok(id),
-            Some(def) if matches!(def.kind, TypeDefKind::Unknown) => {
-                draft.required_resource_types.push((root, name.span))?;
-                Ok(id)
-            }
-            _ => Err(self.context.name_fault(name, NameFault::NoResource)),
+        if draft.is_unknown(root) {
+            draft.required_resource_types.push((root, name.span))?;
+        } else if !draft.is_resource(root) {
+            return Err(self.context.name_fault(name, NameFault::NoResource));
         }
+        Ok(id)
     }
 
     /// A record with these fields.

@@ -17,7 +17,7 @@ impl Draft {
         span: Span,
         gate: &Stability,
     ) -> Result<TypeId, AllocError> {
-        let key = unnamed_key(self.alloc, &kind)?;
+        let key = unnamed_key(self.allocator(), &kind)?;
         if let Some(id) = self.unnamed.get(key.as_str()) {
             return Ok(*id);
         }
@@ -32,7 +32,7 @@ impl Draft {
 
     /// The gate of the first type in a kind that has one, else this one.
     fn unnamed_gate(&self, kind: &TypeDefKind, gate: &Stability) -> Result<Stability, AllocError> {
-        for id in referred(self.alloc, kind)?.iter() {
+        for id in referred(self.allocator(), kind)?.iter() {
             if let Some(def) = self.types.get(id.index()) {
                 if !def.stability.is_unknown() {
                     return def.stability.try_clone();

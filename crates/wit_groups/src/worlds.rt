@@ -2,7 +2,7 @@
 
 use crate::draft::{Draft, Named};
 use crate::fault::{EntrySide, EntrySort, Fault, NameFault, RuleFault};
-use crate::gates::common;
+use crate::gates::common_of;
 use crate::interfaces::WrittenInterface;
 use crate::scope::{Context, ScopeDraft};
 use crate::written::{Body, type_statements};
@@ -71,7 +71,7 @@ impl<'a> Context<'a> {
 
     fn include(self, draft: &Draft, gate: &Gate, include: &Include) -> Result<WorldInclude, Fault> {
         let source = self.part.source;
-        let common = common(self.alloc, source, gate, false)?;
+        let common = common_of(self.alloc, source, gate, false)?;
         let id = draft.world_at(self.directory, self.file, source, include.path)?;
         let names = self.include_names(include.names.as_slice())?;
         Ok(WorldInclude {
@@ -213,7 +213,7 @@ impl<'a> ScopeDraft<'a> {
         path: Path,
         label: Option<Piece>,
     ) -> Result<MadeEntry, Fault> {
-        let common = common(self.context.alloc, self.context.part.source, gate, true)?;
+        let common = common_of(self.context.alloc, self.context.part.source, gate, true)?;
         let id = self.context.interface(draft, path)?;
         let key = match label {
             Some(label) => WorldKey::Name(self.context.copy(label)?),
@@ -241,7 +241,7 @@ impl<'a> ScopeDraft<'a> {
         label: Piece,
         statements: &'a [InterfaceStatement],
     ) -> Result<MadeEntry, Fault> {
-        let common = common(self.context.alloc, self.context.part.source, gate, true)?;
+        let common = common_of(self.context.alloc, self.context.part.source, gate, true)?;
         let id = draft.add_interface(None, label.span)?;
         let written = WrittenInterface {
             gate,
