@@ -1,7 +1,7 @@
 -- What the words behind the program's name ask for.
-use Rattle.std.specs.Prelude.{◌≡◌, ◌⊎◌, ℕ, Bool, true, false, List, [], ◌∷◌, ◌++◌, Option, Some, None, Result, Ok, Err, ◌&&◌, ◌||◌, ◌==◌, bytes_eq, codes, if◌then◌else◌, map}
+use Rattle.std.specs.Prelude.{◌≡◌, ◌⊎◌, ℕ, Bool, true, false, List, [], ◌∷◌, ◌++◌, Option, Some, None, Result, Ok, Err, ◌&&◌, ◌||◌, ◌==◌, bytes_eq, codes, if◌then◌else◌}
 use Rattle.std.specs.List.{list_any, slice_split}
-use Rattle.std.specs.Option.{option_map, option_map_or}
+use Rattle.std.specs.Option.{option_map_or}
 use Rattle.wit_options.specs.Words.{split_at_first}
 use Rattle.wit_options.specs.declared.arguments.Asked.{Asked}
 use Rattle.wit_options.specs.declared.arguments.Asked.TheVariants as asked
@@ -17,7 +17,6 @@ use Rattle.wit_options.specs.declared.options.Output.{Output}
 use Rattle.wit_options.specs.declared.options.Output.TheVariants as output
 use Rattle.wit_options.specs.declared.options.Turn.{Turn}
 use Rattle.wit_options.specs.declared.options.Turn.TheVariants as turn
-use Rattle.wit_options.specs.declared.usage.UsageFault.{UsageFault}
 use Rattle.wit_options.specs.declared.usage.UsageFault.TheVariants as fault
 use Rattle.wit_data.specs.declared.abi.LiftLowerAbi.TheVariants.{AsyncCallback, AsyncStackful, Sync}
 use Rattle.wit_data.specs.declared.abi.ManglingAndAbi.{ManglingAndAbi}
