@@ -30,7 +30,7 @@ RULES = [
     # where the shim is in the place of std or of a crate of the kit
     (r"use std::\{slice, vec\};", f"use {SHIM}::vec;\nuse std::slice;"),
     (r"use std::env::\{Env, FillError\};", f"use {SHIM}::env::FillError;"),
-    (r"\buse std::env;", f"use {SHIM}::env;"),
+    (r"\buse std::\{(env|fs), io\};", rf"use {SHIM}::\1;\nuse std::io;"),
     (r"\bstd::(alloc|collections|fs|vec|simd)\b", rf"{SHIM}::\1"),
     (r"(?<![:\w])(indexmap|semver|json)::", rf"{SHIM}::\1::"),
     # forms that Rust writes otherwise
