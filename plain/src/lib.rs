@@ -23,8 +23,8 @@
 //! # Ok::<(), ResolveError>(())
 //! ```
 //!
-//! It reads no WIT text. Packages come from a parser, as the crate `wit-resolve-graph-parser` hands them over from
-//! wit-parser, from [JSON](json), or are built.
+//! [`Resolve::push_path`] and its kin read WIT text. Packages may also come from wit-parser, as the crate
+//! `wit-resolve-graph-parser` hands them over, from [JSON](json), or be built.
 //!
 //! # What is promised
 //!
@@ -80,6 +80,7 @@ pub mod programs;
 
 pub use crate::face::Resolve;
 pub use crate::face::json;
+pub use crate::face::{FileError, PackageSources};
 pub use crate::face::{print_graph, print_package};
 pub use crate::made::wit_core_names::{
     FutureIntrinsic, ResourceIntrinsic, StreamIntrinsic, WasmExport, WasmExportKind, WasmImport,

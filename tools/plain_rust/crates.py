@@ -15,10 +15,12 @@ LIBRARIES = (
     "wit_json",
     "wit_json_reading",
     "wit_json_commands",
+    "wit_groups",
     "wit_print",
+    "wit_groups",
     "witgraph_calls",
 )
-PROGRAMS = ("witgraph", "witgraph_json", "witgraph_dot")
+PROGRAMS = ("wit", "witgraph", "witgraph_json", "witgraph_dot")
 # libraries whose `#[test]` functions `cargo test` runs
 TESTS = ("test_facades", "test_json", "test_resolve")
 # programs that `cargo test` runs on what is stored beside them

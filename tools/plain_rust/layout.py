@@ -52,7 +52,11 @@ ROOT = """//! The modules that `tools/plain-rust` made, one for each crate of th
     clippy::useless_conversion,
     reason = "Rattle infers less, and wraps errors that are one type here"
 )]
-#![allow(clippy::large_enum_variant, reason = "commands are values: the source puts none into a box")]
+#![allow(
+    clippy::large_enum_variant,
+    clippy::result_large_err,
+    reason = "commands and what stops them are values: the source puts none into a box"
+)]
 #![cfg_attr(
     test,
     allow(

@@ -2,6 +2,7 @@
 
 mod data;
 mod errors;
+mod files;
 #[cfg(feature = "serde")]
 mod hand_on;
 pub mod json;
@@ -11,5 +12,6 @@ mod resolve;
 #[cfg(feature = "serde")]
 mod serde;
 
+pub use files::{FileError, PackageSources};
 pub use printing::{print_graph, print_package};
 pub use resolve::Resolve;

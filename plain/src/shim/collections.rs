@@ -1,4 +1,4 @@
-//! Maps in the order of their keys.
+//! Maps in the order of their keys, and heaps.
 use crate::shim::alloc::{AllocError, AllocFailed};
 use std::fmt;
 
@@ -46,5 +46,26 @@ impl<K: Ord, V> BTreeMap<K, V> {
 impl<K: fmt::Debug, V: fmt::Debug> fmt::Debug for BTreeMap<K, V> {
     fn fmt(&self, f: &mut fmt::Formatter<'_>) -> fmt::Result {
         self.0.fmt(f)
+    }
+}
+
+/// Rust's `BinaryHeap`, which answers want of memory.
+pub struct BinaryHeap<T>(std::collections::BinaryHeap<T>);
+
+impl<T: Ord> BinaryHeap<T> {
+    pub fn new() -> BinaryHeap<T> {
+        BinaryHeap(std::collections::BinaryHeap::new())
+    }
+
+    pub fn push(&mut self, item: T) -> Result<(), AllocFailed<T>> {
+        if self.0.len() == self.0.capacity() && self.0.try_reserve(1).is_err() {
+            return Err(AllocFailed(item));
+        }
+        self.0.push(item);
+        Ok(())
+    }
+
+    pub fn pop(&mut self) -> Option<T> {
+        self.0.pop()
     }
 }

@@ -14,6 +14,7 @@ pub mod alloc;
 mod boxed;
 pub mod collections;
 pub mod env;
+pub mod fs;
 pub mod indexmap;
 pub mod json;
 mod macros;

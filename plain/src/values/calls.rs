@@ -186,7 +186,6 @@ impl<T> ListCalls<T> for shim::Vec<T> {
 
 /// Of versions; what only tests call is there for them.
 pub(crate) trait VersionCalls: Sized {
-    #[cfg(test)]
     fn read(text: &str) -> Result<Self, shim::semver::Error>;
     #[cfg(test)]
     fn into_version(self) -> shim::semver::Version;
@@ -201,7 +200,6 @@ pub(crate) trait VersionCalls: Sized {
 }
 
 impl VersionCalls for Version {
-    #[cfg(test)]
     fn read(text: &str) -> Result<Version, shim::semver::Error> {
         Ok(Version::from_version(shim::semver::Version::parse(text)?)?)
     }

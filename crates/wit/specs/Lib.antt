@@ -1,0 +1,5 @@
+pub mod Answer
+pub mod CoreNames
+pub mod Pretty
+pub mod Tasks
+pub mod steps

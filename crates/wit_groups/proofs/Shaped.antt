@@ -1,0 +1,15 @@
+-- The steps of the search for the first package that lacks its shape.
+use Rattle.std.proofs.Common.{◌≡◌, ◌+◌, ℕ, List, Option, None, Some, slice_get, is_some, ap}
+use Rattle.std.specs.Prelude.{◌↔◌, IsNone}
+use Rattle.wit_data.specs.Shape.{IsShaped}
+use Rattle.wit_data.specs.declared.unresolved.UnresolvedPackage.{UnresolvedPackage}
+use Rattle.wit_data.specs.facts.EachFacts.{EachBelow, one_more}
+use Rattle.wit_shape.specs.declared.fault.ShapeFault.{ShapeFault}
+
+is_none : {A : Type 0} {found : Option A} → found ≡ None → IsNone found
+is_none {A} {found} is = ap is_some is
+
+-- one package more has its shape
+pub one_package : (packages : List UnresolvedPackage) (i : ℕ) (p : UnresolvedPackage) {found : Option ShapeFault} → EachBelow i (λ _. IsShaped) packages
+    → slice_get packages i ≡ Some p → IsNone found ↔ IsShaped p → found ≡ None → EachBelow (i + 1) (λ _. IsShaped) packages
+one_package packages i p below at none is = one_more below p at (none.0 (is_none is))

@@ -1,0 +1,5 @@
+pub mod Arguments
+pub mod Outcome
+pub mod Turns
+pub mod UsageText
+pub mod Words
