@@ -27,7 +27,7 @@ impl<'a> ScopeDraft<'a> {
         &self,
         draft: &mut Draft,
         gate: &Gate,
-        name: Piece,
+        name: &Piece,
         signature: &Signature,
     ) -> Result<Function, Fault> {
         let kind = if signature.is_async {
@@ -47,7 +47,7 @@ impl<'a> ScopeDraft<'a> {
     pub fn resource_function(
         &self,
         draft: &mut Draft,
-        resource: Piece,
+        resource: &Piece,
         function: &ResourceFunction,
     ) -> Result<Function, Fault> {
         let id = self.named_type(resource)?;
@@ -94,7 +94,7 @@ impl<'a> ScopeDraft<'a> {
         }
         for member in signature.parameters.iter() {
             let param = self.param(draft, member)?;
-            self.add_param_name(&mut names, member.name)?;
+            self.add_param_name(&mut names, &member.name)?;
             params.push(param)?;
         }
         Ok(params)
@@ -113,7 +113,7 @@ impl<'a> ScopeDraft<'a> {
             Some(range) => self.type_of(draft, range, &Stability::Unknown)?,
             None => return Err(Fault::rule(member.name.span, RuleFault::MissingPart)),
         };
-        let name = self.context.copy(member.name)?;
+        let name = self.context.copy(&member.name)?;
         Ok(Param {
             name,
             ty,
@@ -122,7 +122,7 @@ impl<'a> ScopeDraft<'a> {
     }
 
     /// Adds the name of a parameter, which isn't there yet.
-    fn add_param_name(&self, names: &mut NameSet, name: Piece) -> Result<(), Fault> {
+    fn add_param_name(&self, names: &mut NameSet, name: &Piece) -> Result<(), Fault> {
         let text = self.context.text(name);
         if names.contains(text) {
             return Err(self.context.name_fault(name, NameFault::ParameterTwice));
@@ -138,19 +138,14 @@ impl<'a> ScopeDraft<'a> {
         kind: FunctionKind,
         range: Option<TypeRange>,
     ) -> Result<Option<Type_>, Fault> {
-        match (kind, range) {
-            (FunctionKind::Constructor(id), None) => Ok(Some(Type_::Id(id))),
-            (_, None) => Ok(None),
-            (FunctionKind::Constructor(id), Some(range)) => {
-                let ty = self.type_of(draft, range, &Stability::Unknown)?;
-                self.check_constructor(draft, id, range, ty)?;
-                Ok(Some(ty))
-            }
-            (_, Some(range)) => {
-                let ty = self.type_of(draft, range, &Stability::Unknown)?;
-                Ok(Some(ty))
-            }
+        let Some(range) = range else {
+            return Ok(made_alone(kind));
+        };
+        let ty = self.type_of(draft, range, &Stability::Unknown)?;
+        if let FunctionKind::Constructor(id) = kind {
+            self.check_constructor(draft, id, range, ty)?;
         }
+        Ok(Some(ty))
     }
 
     /// Whether a constructor of a resource may have a result.
@@ -172,6 +167,14 @@ impl<'a> ScopeDraft<'a> {
                 Err(Fault::rule(span, RuleFault::ConstructorOk))
             }
         }
+    }
+}
+
+/// What a function of a kind makes that says of no result: a constructor its resource.
+fn made_alone(kind: FunctionKind) -> Option<Type_> {
+    match kind {
+        FunctionKind::Constructor(id) => Some(Type_::Id(id)),
+        _ => None,
     }
 }
 
@@ -216,7 +219,7 @@ impl<'a> Context<'a> {
 /// The name of a function of a resource, as WIT's component names spell it.
 fn resource_function_name(
     context: &Context<'_>,
-    resource: Piece,
+    resource: &Piece,
     name: ResourceFunctionName,
 ) -> Result<Text, AllocError> {
     let alloc = context.alloc;
@@ -224,11 +227,11 @@ fn resource_function_name(
     let text = match name {
         ResourceFunctionName::Constructor(_) => { format!(in alloc; "[constructor]{resource}")? }
         ResourceFunctionName::Method(name) => {
-            let name = context.text(name);
+            let name = context.text(&name);
             format!(in alloc; "[method]{resource}.{name}")?
         }
         ResourceFunctionName::Static(name) => {
-            let name = context.text(name);
+            let name = context.text(&name);
             format!(in alloc; "[static]{resource}.{name}")?
         }
     };
