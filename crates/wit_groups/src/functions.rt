@@ -69,7 +69,7 @@ impl<'a> ScopeDraft<'a> {
     ) -> Result<Function, Fault> {
         let common = common_of(self.context.alloc, self.context.part.source, gate, true)?;
         let params = self.params(draft, head.kind, head.span, signature)?;
-        let result_ = self.function_result(draft, head.kind, signature.result)?;
+        let result_ = self.function_result(draft, head.kind, &signature.result)?;
         let mut function = Function::new(head.name, head.kind, params, result_);
         function.docs = common.docs;
         function.stability = common.stability;
@@ -136,16 +136,26 @@ impl<'a> ScopeDraft<'a> {
         &self,
         draft: &mut Draft,
         kind: FunctionKind,
-        range: Option<TypeRange>,
+        range: &Option<TypeRange>,
     ) -> Result<Option<Type_>, Fault> {
-        let Some(range) = range else {
-            return Ok(made_alone(kind));
-        };
+        match range {
+            Some(range) => Ok(Some(self.written_result(draft, kind, *range)?)),
+            None => Ok(made_alone(kind)),
+        }
+    }
+
+    /// The result that a function of this kind writes.
+    fn written_result(
+        &self,
+        draft: &mut Draft,
+        kind: FunctionKind,
+        range: TypeRange,
+    ) -> Result<Type_, Fault> {
         let ty = self.type_of(draft, range, &Stability::Unknown)?;
         if let FunctionKind::Constructor(id) = kind {
             self.check_constructor(draft, id, range, ty)?;
         }
-        Ok(Some(ty))
+        Ok(ty)
     }
 
     /// Whether a constructor of a resource may have a result.
@@ -156,17 +166,23 @@ impl<'a> ScopeDraft<'a> {
         range: TypeRange,
         ty: Type_,
     ) -> Result<(), Fault> {
-        match result_ok(draft, ty) {
-            None => {
-                let span = self.context.type_span(range);
-                Err(Fault::rule(span, RuleFault::ConstructorResult))
-            }
-            Some(Some(Type_::Id(id))) if id == resource => Ok(()),
-            Some(_) => {
-                let span = self.context.ok_span(range);
-                Err(Fault::rule(span, RuleFault::ConstructorOk))
-            }
+        let Some(ok) = result_ok(draft, ty) else {
+            let span = self.context.type_span(range);
+            return Err(Fault::rule(span, RuleFault::ConstructorResult));
+        };
+        if !is_type(ok, resource) {
+            let span = self.context.ok_span(range);
+            return Err(Fault::rule(span, RuleFault::ConstructorOk));
         }
+        Ok(())
+    }
+}
+
+/// Whether there is a type, which has this id.
+fn is_type(ty: Option<Type_>, id: TypeId) -> bool {
+    match ty {
+        Some(Type_::Id(other)) => other.index() == id.index(),
+        _ => false,
     }
 }
 

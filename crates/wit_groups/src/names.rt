@@ -130,25 +130,28 @@ impl Directory {
         path: &Path,
     ) -> Result<Option<Need>, Fault> {
         let source = scope.part.source;
-        let alias = self.alias(scope.file, source, path);
-        let is_own = alias.is_none();
-        let found = self.resolved(scope.file, source, path);
-        if found.package.is_some() {
+        if let Some(found) = self.alias(scope.file, source, path) {
+            return self.need_of(alloc, source, &found);
+        }
+        match self.need_of(alloc, source, path)? {
+            Some(need) => Ok(Some(shown_need(scopes, scope.file, need))),
+            None => Ok(None),
+        }
+    }
+
+    /// The need for what a path names, None where that is of another package.
+    fn need_of(&self, alloc: Global, source: &str, path: &Path) -> Result<Option<Need>, Fault> {
+        if path.package.is_some() {
             return Ok(None);
         }
-        let place = found.name.span;
-        let name = found.name.text(source);
-        let Some(target) = self.numbers.get(name) else {
-            return Err(Fault::name(alloc, place, NameFault::NoItem, name));
-        };
-        let span = match scopes.get(*target) {
-            Some(there) if is_own && there.file == scope.file => there.name.span,
-            _ => place,
-        };
-        Ok(Some(Need {
-            target: *target,
-            span,
-        }))
+        let name = path.name.text(source);
+        match self.numbers.get(name) {
+            Some(target) => Ok(Some(Need {
+                target: *target,
+                span: path.name.span,
+            })),
+            None => Err(Fault::name(alloc, path.name.span, NameFault::NoItem, name)),
+        }
     }
 
     /// Whether the `use` lines of files are without attributes and name what is there.
@@ -173,6 +176,17 @@ impl Directory {
             }
         }
         Ok(())
+    }
+}
+
+/// A need for what the file of a number may have itself, then with the place where that stands.
+fn shown_need(scopes: &[Scope<'_>], file: usize, need: Need) -> Need {
+    match scopes.get(need.target) {
+        Some(there) if there.file == file => Need {
+            target: need.target,
+            span: there.name.span,
+        },
+        _ => need,
     }
 }
 
