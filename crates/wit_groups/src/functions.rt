@@ -153,7 +153,7 @@ impl<'a> ScopeDraft<'a> {
     ) -> Result<Type_, Fault> {
         let ty = self.type_of(draft, range, &Stability::Unknown)?;
         if let FunctionKind::Constructor(id) = kind {
-            self.check_constructor(draft, id, range, ty)?;
+            self.check_constructor(draft, id, range, &ty)?;
         }
         Ok(ty)
     }
@@ -164,7 +164,7 @@ impl<'a> ScopeDraft<'a> {
         draft: &Draft,
         resource: TypeId,
         range: TypeRange,
-        ty: Type_,
+        ty: &Type_,
     ) -> Result<(), Fault> {
         let Some(ok) = result_ok(draft, ty) else {
             let span = self.context.type_span(range);
@@ -195,7 +195,7 @@ fn made_alone(kind: FunctionKind) -> Option<Type_> {
 }
 
 /// The ok type of a `result`, None where a type is no `result`.
-fn result_ok(draft: &Draft, ty: Type_) -> Option<Option<Type_>> {
+fn result_ok(draft: &Draft, ty: &Type_) -> Option<Option<Type_>> {
     let Type_::Id(id) = ty else {
         return None;
     };
