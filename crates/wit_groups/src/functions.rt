@@ -181,7 +181,15 @@ impl<'a> ScopeDraft<'a> {
 /// Whether there is a type, which has this id.
 fn is_type(ty: Option<Type_>, id: TypeId) -> bool {
     match ty {
-        Some(Type_::Id(other)) => other.index() == id.index(),
+        Some(ty) => has_id(ty, id),
+        None => false,
+    }
+}
+
+/// Whether a type has this id.
+fn has_id(ty: Type_, id: TypeId) -> bool {
+    match ty {
+        Type_::Id(other) => other.index() == id.index(),
         _ => false,
     }
 }
