@@ -53,14 +53,14 @@ impl<'a> ScopeDraft<'a> {
     ) -> Result<(), Fault> {
         let common = common_of(self.context.alloc, self.context.part.source, gate, true)?;
         let kind = self.definition_kind(draft, definition, &common.stability)?;
-        let name = self.context.copy(definition.name)?;
+        let name = self.context.copy(&definition.name)?;
         let mut def = TypeDef::new(Some(name), kind, self.owner);
         def.docs = common.docs;
         def.stability = common.stability;
         def.external_id = common.external_id;
         def.span = definition.name.span;
         let made = draft.add_type(def)?;
-        self.define(definition.name, Named::Type_(made))
+        self.define(&definition.name, Named::Type_(made))
     }
 
     /// What a definition is. Types without a name that it is the first to write have its gate.
@@ -128,7 +128,7 @@ fn places_of(
 /// The fault of a type that needs itself.
 fn cycle(context: &Context<'_>, names: &TypeNames, need: Need) -> Fault {
     let name = match names.pieces.get(need.target) {
-        Some(piece) => context.text(*piece),
+        Some(piece) => context.text(piece),
         None => "",
     };
     Fault::name(
@@ -150,7 +150,7 @@ fn type_names(context: &Context<'_>, statements: &[TypeStatement<'_>]) -> Result
         match statement {
             TypeStatement::Use(_, used) => add_used(context, &mut names, used)?,
             TypeStatement::Define(_, definition) => {
-                add_defined(context, &mut names, definition.name, place)?;
+                add_defined(context, &mut names, &definition.name, place)?;
             }
         }
     }
@@ -160,17 +160,17 @@ fn type_names(context: &Context<'_>, statements: &[TypeStatement<'_>]) -> Result
 /// Adds the names that a `use` gives. None of them is that of a type above.
 fn add_used(context: &Context<'_>, names: &mut TypeNames, used: &UseNames) -> Result<(), Fault> {
     for renaming in used.names.iter() {
-        let text = context.text(renaming.new);
+        let text = context.text(&renaming.new);
         let known = match names.numbers.get(text) {
             Some(number) => names.definitions.get(*number).copied(),
             None => None,
         };
         match known {
             Some(Some(_)) => {
-                return Err(context.name_fault(renaming.new, NameFault::DefinedAbove));
+                return Err(context.name_fault(&renaming.new, NameFault::DefinedAbove));
             }
             Some(None) => {}
-            None => add_name(context, names, renaming.new, None)?,
+            None => add_name(context, names, &renaming.new, None)?,
         }
     }
     Ok(())
@@ -180,7 +180,7 @@ fn add_used(context: &Context<'_>, names: &mut TypeNames, used: &UseNames) -> Re
 fn add_defined(
     context: &Context<'_>,
     names: &mut TypeNames,
-    name: Piece,
+    name: &Piece,
     place: usize,
 ) -> Result<(), Fault> {
     if names.numbers.contains_key(context.text(name)) {
@@ -194,7 +194,7 @@ fn add_defined(
 fn add_name(
     context: &Context<'_>,
     names: &mut TypeNames,
-    name: Piece,
+    name: &Piece,
     definition: Option<usize>,
 ) -> Result<(), AllocError> {
     let key = String::from_str(context.alloc, context.text(name))?;
@@ -202,7 +202,7 @@ fn add_name(
     if !names.numbers.contains_key(key.as_str()) {
         names.numbers.push(key, number)?;
         names.definitions.push(definition)?;
-        names.pieces.push(name)?;
+        names.pieces.push(*name)?;
     }
     Ok(())
 }
@@ -254,7 +254,8 @@ fn add_needs(
     for node in context.nodes(range) {
         match &node.kind {
             TypeNodeKind::Named(name) | TypeNodeKind::Own(name) | TypeNodeKind::Borrow(name) => {
-                needs.push(need_of(context, names, *name)?)?;
+                let need = need_of(context, names, name)?;
+                needs.push(need)?;
             }
             _ => {}
         }
@@ -263,7 +264,7 @@ fn add_needs(
 }
 
 /// The need for the type of a name.
-fn need_of(context: &Context<'_>, names: &TypeNames, name: Piece) -> Result<Need, Fault> {
+fn need_of(context: &Context<'_>, names: &TypeNames, name: &Piece) -> Result<Need, Fault> {
     let text = context.text(name);
     match names.numbers.get(text) {
         Some(number) => Ok(Need {
@@ -288,10 +289,10 @@ fn check_functions(context: &Context<'_>, functions: &[ResourceFunction]) -> Res
     let mut names = NameSet::new(context.alloc);
     let mut has_constructor = false;
     for function in functions {
-        match function.name {
+        match &function.name {
             ResourceFunctionName::Constructor(span) => {
                 if has_constructor {
-                    return Err(Fault::rule(span, RuleFault::SecondConstructor));
+                    return Err(Fault::rule(*span, RuleFault::SecondConstructor));
                 }
                 has_constructor = true;
             }
@@ -304,7 +305,7 @@ fn check_functions(context: &Context<'_>, functions: &[ResourceFunction]) -> Res
 }
 
 /// Adds the name of a function of a resource, which isn't there yet.
-fn add_function(context: &Context<'_>, names: &mut NameSet, name: Piece) -> Result<(), Fault> {
+fn add_function(context: &Context<'_>, names: &mut NameSet, name: &Piece) -> Result<(), Fault> {
     let text = context.text(name);
     if names.contains(text) {
         return Err(context.name_fault(name, NameFault::FunctionTwice));

@@ -65,7 +65,8 @@ impl Draft {
         let mut interface = Interface::new(self.allocator(), name);
         interface.span = span;
         self.interfaces.push(interface)?;
-        self.names.push(Names::new(self.allocator()))?;
+        let none = Names::new(self.allocator());
+        self.names.push(none)?;
         Ok(id)
     }
 

@@ -18,8 +18,8 @@ impl Draft {
     /// Adds the interfaces and worlds of other packages that are named, and the gates under which they are.
     pub fn add_foreign(&mut self, mentions: &[Mention<'_>]) -> Result<(), Fault> {
         for mention in mentions {
-            if let Some(package) = mention.path.package {
-                self.add_foreign_item(*mention, package)?;
+            if let Some(package) = &mention.path.package {
+                self.add_foreign_item(mention, package)?;
             }
         }
         Ok(())
@@ -27,8 +27,8 @@ impl Draft {
 
     fn add_foreign_item(
         &mut self,
-        mention: Mention<'_>,
-        package: PackagePath,
+        mention: &Mention<'_>,
+        package: &PackagePath,
     ) -> Result<(), Fault> {
         check_attributes(mention.gate, true)?;
         let source = mention.part.source;
@@ -49,12 +49,13 @@ impl Draft {
     fn add_foreign_package(
         &mut self,
         name: PackageName,
-        package: PackagePath,
+        package: &PackagePath,
     ) -> Result<usize, AllocError> {
         let place = self.foreign_deps.len();
         if !self.foreign_deps.contains_key(&name) {
             self.foreign_dep_spans.push(bare_span(package))?;
-            self.foreign_deps.push(name, Names::new(self.allocator()))?;
+            let none = Names::new(self.allocator());
+            self.foreign_deps.push(name, none)?;
         }
         Ok(place)
     }
@@ -76,7 +77,7 @@ impl Draft {
     /// Adds an interface or a world of another package, and the gate under which it is named.
     fn add_new_item(
         &mut self,
-        mention: Mention<'_>,
+        mention: &Mention<'_>,
         place: usize,
         gate: Stability,
     ) -> Result<(), AllocError> {
@@ -94,13 +95,16 @@ impl Draft {
     }
 
     /// Adds an interface or a world of which the name alone is known.
-    fn add_foreign_scope(&mut self, mention: Mention<'_>) -> Result<AstItem, AllocError> {
-        let piece = mention.path.name;
-        let name = Text::try_from_str(self.allocator(), piece.text(mention.part.source))?;
-        match mention.kind {
-            MentionKind::World => Ok(AstItem::World(self.add_world(name, piece.span)?)),
-            MentionKind::Use(_) | MentionKind::Interface => {
-                let id = self.add_interface(Some(name), piece.span)?;
+    fn add_foreign_scope(&mut self, mention: &Mention<'_>) -> Result<AstItem, AllocError> {
+        let span = mention.path.name.span;
+        let name = Text::try_from_str(
+            self.allocator(),
+            mention.path.name.text(mention.part.source),
+        )?;
+        match &mention.kind {
+            MentionKind::World => Ok(AstItem::World(self.add_world(name, span)?)),
+            MentionKind::Use | MentionKind::Interface => {
+                let id = self.add_interface(Some(name), span)?;
                 Ok(AstItem::Interface(id))
             }
         }
@@ -113,8 +117,8 @@ impl Draft {
         mentions: &[Mention<'_>],
     ) -> Result<(), Fault> {
         for mention in mentions {
-            if let MentionKind::Use(names) = mention.kind {
-                self.add_used_types(directory, *mention, names)?;
+            if let MentionKind::Use = mention.kind {
+                self.add_used_types(directory, mention)?;
             }
         }
         Ok(())
@@ -123,8 +127,7 @@ impl Draft {
     fn add_used_types(
         &mut self,
         directory: &Directory,
-        mention: Mention<'_>,
-        names: &[Renaming],
+        mention: &Mention<'_>,
     ) -> Result<(), Fault> {
         check_attributes(mention.gate, false)?;
         let source = mention.part.source;
@@ -134,8 +137,8 @@ impl Draft {
             return Ok(());
         }
         let gate = stability_of(self.allocator(), source, mention.gate)?;
-        for renaming in names {
-            self.add_unknown_type(id, source, *renaming, &gate)?;
+        for renaming in mention.names {
+            self.add_unknown_type(id, source, renaming, &gate)?;
         }
         Ok(())
     }
@@ -145,7 +148,7 @@ impl Draft {
         &mut self,
         id: InterfaceId,
         source: &str,
-        renaming: Renaming,
+        renaming: &Renaming,
         gate: &Stability,
     ) -> Result<(), AllocError> {
         let text = renaming.name.text(source);
@@ -183,7 +186,7 @@ impl Draft {
         directory: &Directory,
         file: usize,
         source: &str,
-        path: Path,
+        path: &Path,
     ) -> Result<InterfaceId, Fault> {
         match self.item_at(directory, file, source, path)? {
             AstItem::Interface(id) => Ok(id),
@@ -200,7 +203,7 @@ impl Draft {
         directory: &Directory,
         file: usize,
         source: &str,
-        path: Path,
+        path: &Path,
     ) -> Result<WorldId, Fault> {
         match self.item_at(directory, file, source, path)? {
             AstItem::World(id) => Ok(id),
@@ -217,11 +220,11 @@ impl Draft {
         directory: &Directory,
         file: usize,
         source: &str,
-        path: Path,
+        path: &Path,
     ) -> Result<AstItem, Fault> {
         let found = directory.resolved(file, source, path);
         let name = found.name.text(source);
-        let item = match found.package {
+        let item = match &found.package {
             Some(package) => self.foreign_item(
                 &package_name(self.allocator(), source, package)?,
                 name,

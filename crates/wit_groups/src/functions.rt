@@ -27,7 +27,7 @@ impl<'a> ScopeDraft<'a> {
         &self,
         draft: &mut Draft,
         gate: &Gate,
-        name: Piece,
+        name: &Piece,
         signature: &Signature,
     ) -> Result<Function, Fault> {
         let kind = if signature.is_async {
@@ -47,7 +47,7 @@ impl<'a> ScopeDraft<'a> {
     pub fn resource_function(
         &self,
         draft: &mut Draft,
-        resource: Piece,
+        resource: &Piece,
         function: &ResourceFunction,
     ) -> Result<Function, Fault> {
         let id = self.named_type(resource)?;
@@ -69,7 +69,7 @@ impl<'a> ScopeDraft<'a> {
     ) -> Result<Function, Fault> {
         let common = common_of(self.context.alloc, self.context.part.source, gate, true)?;
         let params = self.params(draft, head.kind, head.span, signature)?;
-        let result_ = self.function_result(draft, head.kind, signature.result)?;
+        let result_ = self.function_result(draft, head.kind, &signature.result)?;
         let mut function = Function::new(head.name, head.kind, params, result_);
         function.docs = common.docs;
         function.stability = common.stability;
@@ -94,7 +94,7 @@ impl<'a> ScopeDraft<'a> {
         }
         for member in signature.parameters.iter() {
             let param = self.param(draft, member)?;
-            self.add_param_name(&mut names, member.name)?;
+            self.add_param_name(&mut names, &member.name)?;
             params.push(param)?;
         }
         Ok(params)
@@ -113,7 +113,7 @@ impl<'a> ScopeDraft<'a> {
             Some(range) => self.type_of(draft, range, &Stability::Unknown)?,
             None => return Err(Fault::rule(member.name.span, RuleFault::MissingPart)),
         };
-        let name = self.context.copy(member.name)?;
+        let name = self.context.copy(&member.name)?;
         Ok(Param {
             name,
             ty,
@@ -122,7 +122,7 @@ impl<'a> ScopeDraft<'a> {
     }
 
     /// Adds the name of a parameter, which isn't there yet.
-    fn add_param_name(&self, names: &mut NameSet, name: Piece) -> Result<(), Fault> {
+    fn add_param_name(&self, names: &mut NameSet, name: &Piece) -> Result<(), Fault> {
         let text = self.context.text(name);
         if names.contains(text) {
             return Err(self.context.name_fault(name, NameFault::ParameterTwice));
@@ -136,21 +136,26 @@ impl<'a> ScopeDraft<'a> {
         &self,
         draft: &mut Draft,
         kind: FunctionKind,
-        range: Option<TypeRange>,
+        range: &Option<TypeRange>,
     ) -> Result<Option<Type_>, Fault> {
-        match (kind, range) {
-            (FunctionKind::Constructor(id), None) => Ok(Some(Type_::Id(id))),
-            (_, None) => Ok(None),
-            (FunctionKind::Constructor(id), Some(range)) => {
-                let ty = self.type_of(draft, range, &Stability::Unknown)?;
-                self.check_constructor(draft, id, range, ty)?;
-                Ok(Some(ty))
-            }
-            (_, Some(range)) => {
-                let ty = self.type_of(draft, range, &Stability::Unknown)?;
-                Ok(Some(ty))
-            }
+        match range {
+            Some(range) => Ok(Some(self.written_result(draft, kind, *range)?)),
+            None => Ok(made_alone(kind)),
         }
+    }
+
+    /// The result that a function of this kind writes.
+    fn written_result(
+        &self,
+        draft: &mut Draft,
+        kind: FunctionKind,
+        range: TypeRange,
+    ) -> Result<Type_, Fault> {
+        let ty = self.type_of(draft, range, &Stability::Unknown)?;
+        if let FunctionKind::Constructor(id) = kind {
+            self.check_constructor(draft, id, range, &ty)?;
+        }
+        Ok(ty)
     }
 
     /// Whether a constructor of a resource may have a result.
@@ -159,24 +164,46 @@ impl<'a> ScopeDraft<'a> {
         draft: &Draft,
         resource: TypeId,
         range: TypeRange,
-        ty: Type_,
+        ty: &Type_,
     ) -> Result<(), Fault> {
-        match result_ok(draft, ty) {
-            None => {
-                let span = self.context.type_span(range);
-                Err(Fault::rule(span, RuleFault::ConstructorResult))
-            }
-            Some(Some(Type_::Id(id))) if id == resource => Ok(()),
-            Some(_) => {
-                let span = self.context.ok_span(range);
-                Err(Fault::rule(span, RuleFault::ConstructorOk))
-            }
+        let Some(ok) = result_ok(draft, ty) else {
+            let span = self.context.type_span(range);
+            return Err(Fault::rule(span, RuleFault::ConstructorResult));
+        };
+        if !is_type(ok, resource) {
+            let span = self.context.ok_span(range);
+            return Err(Fault::rule(span, RuleFault::ConstructorOk));
         }
+        Ok(())
+    }
+}
+
+/// Whether there is a type, which has this id.
+fn is_type(ty: Option<Type_>, id: TypeId) -> bool {
+    match ty {
+        Some(ty) => has_id(ty, id),
+        None => false,
+    }
+}
+
+/// Whether a type has this id.
+fn has_id(ty: Type_, id: TypeId) -> bool {
+    match ty {
+        Type_::Id(other) => other.index() == id.index(),
+        _ => false,
+    }
+}
+
+/// What a function of a kind makes that says of no result: a constructor its resource.
+fn made_alone(kind: FunctionKind) -> Option<Type_> {
+    match kind {
+        FunctionKind::Constructor(id) => Some(Type_::Id(id)),
+        _ => None,
     }
 }
 
 /// The ok type of a `result`, None where a type is no `result`.
-fn result_ok(draft: &Draft, ty: Type_) -> Option<Option<Type_>> {
+fn result_ok(draft: &Draft, ty: &Type_) -> Option<Option<Type_>> {
     let Type_::Id(id) = ty else {
         return None;
     };
@@ -216,7 +243,7 @@ impl<'a> Context<'a> {
 /// The name of a function of a resource, as WIT's component names spell it.
 fn resource_function_name(
     context: &Context<'_>,
-    resource: Piece,
+    resource: &Piece,
     name: ResourceFunctionName,
 ) -> Result<Text, AllocError> {
     let alloc = context.alloc;
@@ -224,11 +251,11 @@ fn resource_function_name(
     let text = match name {
         ResourceFunctionName::Constructor(_) => { format!(in alloc; "[constructor]{resource}")? }
         ResourceFunctionName::Method(name) => {
-            let name = context.text(name);
+            let name = context.text(&name);
             format!(in alloc; "[method]{resource}.{name}")?
         }
         ResourceFunctionName::Static(name) => {
-            let name = context.text(name);
+            let name = context.text(&name);
             format!(in alloc; "[static]{resource}.{name}")?
         }
     };

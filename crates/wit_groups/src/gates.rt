@@ -23,7 +23,7 @@ pub(crate) fn common_of(
 ) -> Result<Common, Fault> {
     check_attributes(gate, may_have_id)?;
     let stability = stability_of(alloc, source, gate)?;
-    let docs = docs_of(alloc, source, gate.docs)?;
+    let docs = docs_of(alloc, source, &gate.docs)?;
     let external_id = external_id(alloc, source, gate)?;
     Ok(Common {
         docs,
@@ -104,7 +104,7 @@ pub(crate) fn stability_of(alloc: Global, source: &str, gate: &Gate) -> Result<S
     }
     match value(gate, AttributeKind::Since) {
         Some(since) => {
-            let since = version_of(alloc, source, since)?;
+            let since = version_of(alloc, source, &since)?;
             let deprecated = deprecated(alloc, source, gate)?;
             Ok(Stability::Stable { since, deprecated })
         }
@@ -115,7 +115,7 @@ pub(crate) fn stability_of(alloc: Global, source: &str, gate: &Gate) -> Result<S
 /// Since when a thing is deprecated.
 fn deprecated(alloc: Global, source: &str, gate: &Gate) -> Result<Option<Version>, Fault> {
     match value(gate, AttributeKind::Deprecated) {
-        Some(piece) => Ok(Some(version_of(alloc, source, piece)?)),
+        Some(piece) => Ok(Some(version_of(alloc, source, &piece)?)),
         None => Ok(None),
     }
 }
@@ -139,7 +139,7 @@ fn value(gate: &Gate, kind: AttributeKind) -> Option<Piece> {
 }
 
 /// The version that a piece of a text is.
-pub(crate) fn version_of(alloc: Global, source: &str, piece: Piece) -> Result<Version, Fault> {
+pub(crate) fn version_of(alloc: Global, source: &str, piece: &Piece) -> Result<Version, Fault> {
     match Version::parse(alloc, piece.text(source)) {
         Ok(version) => Ok(version),
         Err(error) if error == semver::Error::from(AllocError) => Err(Fault::OutOfMemory),
@@ -154,7 +154,7 @@ pub(crate) fn version_of(alloc: Global, source: &str, piece: Piece) -> Result<Ve
 pub(crate) fn docs_of(
     alloc: Global,
     source: &str,
-    comments: Option<Comments>,
+    comments: &Option<Comments>,
 ) -> Result<Docs, AllocError> {
     match comments {
         Some(comments) => Ok(Docs {

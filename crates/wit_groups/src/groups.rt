@@ -182,7 +182,7 @@ impl<'a> Reading<'a> {
             let made = nested_package(self.alloc, source.text, &file, package)?;
             self.nested.push(made)?;
         }
-        if let Some(header) = file.header {
+        if let Some(header) = &file.header {
             self.add_header(source.text, header)?;
         }
         self.files.push(FileRead {
@@ -193,17 +193,17 @@ impl<'a> Reading<'a> {
     }
 
     /// Notes of which package a file is.
-    fn add_header(&mut self, source: &str, header: Header) -> Result<(), Fault> {
-        let name = package_name(self.alloc, source, header.name)?;
-        let span = package_span(header.name);
+    fn add_header(&mut self, source: &str, header: &Header) -> Result<(), Fault> {
+        let name = package_name(self.alloc, source, &header.name)?;
+        let span = package_span(&header.name);
         self.check_name(&name, span)?;
-        if let Some(comments) = header.docs {
+        if let Some(comments) = &header.docs {
             if self.has_comments {
                 return Err(Fault::rule(comments.span, RuleFault::SecondDocs));
             }
             self.has_comments = true;
         }
-        let docs = docs_of(self.alloc, source, header.docs)?;
+        let docs = docs_of(self.alloc, source, &header.docs)?;
         self.set_head(name, span, docs);
         Ok(())
     }
@@ -275,13 +275,13 @@ fn nested_package(
     package: &NestedPackage,
 ) -> Result<UnresolvedPackage, Fault> {
     if let Some(inner) = package.inner.first() {
-        let span = package_span(*inner);
+        let span = package_span(inner);
         return Err(Fault::rule(span, RuleFault::NestedTooDeep));
     }
     let head = PackageHead {
-        name: package_name(alloc, source, package.name)?,
-        span: package_span(package.name),
-        docs: docs_of(alloc, source, package.docs)?,
+        name: package_name(alloc, source, &package.name)?,
+        span: package_span(&package.name),
+        docs: docs_of(alloc, source, &package.docs)?,
     };
     let part = Part {
         source,

@@ -5,7 +5,7 @@ use crate::fault::{Fault, NameFault};
 use crate::gates::{check_attributes, docs_of, stability_of};
 use crate::scope::{Context, ScopeDraft};
 use crate::tables::add_new;
-use crate::written::{Body, type_statements};
+use crate::written::interface_types;
 use std::alloc::{AllocError, Global};
 use wit_data::{Docs, Function, Interface, InterfaceId, Names, Stability, Text, TypeId, TypeOwner};
 use wit_text::syntax::{
@@ -29,11 +29,11 @@ impl<'a> Context<'a> {
         self,
         draft: &mut Draft,
         id: InterfaceId,
-        written: WrittenInterface<'a>,
+        written: &WrittenInterface<'a>,
     ) -> Result<(), Fault> {
         let (docs, stability) = self.head(written.gate, written.is_in_place)?;
         let mut scope = ScopeDraft::new(self, TypeOwner::Interface(id));
-        let statements = type_statements(self.alloc, Body::Interface(written.statements))?;
+        let statements = interface_types(self.alloc, written.statements)?;
         scope.define_types(draft, statements.as_slice())?;
         let functions = scope.interface_functions(draft, written.statements)?;
         let interface = Interface {
@@ -54,15 +54,15 @@ impl<'a> Context<'a> {
         check_attributes(gate, may_have_id)?;
         let source = self.part.source;
         let stability = stability_of(self.alloc, source, gate)?;
-        Ok((docs_of(self.alloc, source, gate.docs)?, stability))
+        Ok((docs_of(self.alloc, source, &gate.docs)?, stability))
     }
 
     /// The name of an interface, None of one that a world writes in place.
-    fn interface_name(self, written: WrittenInterface<'a>) -> Result<Option<Text>, AllocError> {
+    fn interface_name(self, written: &WrittenInterface<'a>) -> Result<Option<Text>, AllocError> {
         if written.is_in_place {
             return Ok(None);
         }
-        Ok(Some(self.copy(written.name)?))
+        Ok(Some(self.copy(&written.name)?))
     }
 }
 
@@ -77,14 +77,14 @@ impl<'a> ScopeDraft<'a> {
         for statement in statements {
             match &statement.kind {
                 InterfaceStatementKind::Function(name, signature) => {
-                    self.define(*name, Named::Function)?;
-                    let made = self.free_function(draft, &statement.gate, *name, signature)?;
-                    self.add_function(&mut functions, *name, made)?;
+                    self.define(name, Named::Function)?;
+                    let made = self.free_function(draft, &statement.gate, name, signature)?;
+                    self.add_function(&mut functions, name, made)?;
                 }
                 InterfaceStatementKind::Define(definition) => {
                     if let DefinitionKind::Resource(written) = &definition.kind {
                         let written = written.as_slice();
-                        self.add_methods(draft, &mut functions, definition.name, written)?;
+                        self.add_methods(draft, &mut functions, &definition.name, written)?;
                     }
                 }
                 InterfaceStatementKind::Use(_) => {}
@@ -98,7 +98,7 @@ impl<'a> ScopeDraft<'a> {
         &self,
         draft: &mut Draft,
         functions: &mut Names<Function>,
-        resource: Piece,
+        resource: &Piece,
         written: &[ResourceFunction],
     ) -> Result<(), Fault> {
         for function in written {
@@ -112,7 +112,7 @@ impl<'a> ScopeDraft<'a> {
     fn add_function(
         &self,
         functions: &mut Names<Function>,
-        written: Piece,
+        written: &Piece,
         function: Function,
     ) -> Result<(), Fault> {
         let key = String::from_str(self.context.alloc, function.name.as_str())?;

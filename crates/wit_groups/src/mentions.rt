@@ -6,14 +6,14 @@ use std::alloc::{AllocError, Global};
 use wit_data::Items;
 use wit_text::syntax::{
     Entry, Gate, InterfaceStatement, InterfaceStatementKind, Item, ItemKind, Path, Renaming,
-    WorldStatement, WorldStatementKind,
+    UseNames, WorldStatement, WorldStatementKind,
 };
 
 /// What a path names, and what for.
 #[derive(Clone, Copy)]
-pub(crate) enum MentionKind<'a> {
-    /// An interface of which an interface or a world uses these types.
-    Use(&'a [Renaming]),
+pub(crate) enum MentionKind {
+    /// An interface of which an interface or a world uses types.
+    Use,
     /// An interface that a world imports or exports, or to which a file gives a name.
     Interface,
     /// A world that is included.
@@ -26,8 +26,10 @@ pub(crate) struct Mention<'a> {
     pub file: usize,
     pub part: Part<'a>,
     pub gate: &'a Gate,
-    pub path: Path,
-    pub kind: MentionKind<'a>,
+    pub path: &'a Path,
+    pub kind: MentionKind,
+    /// The types that are used.
+    pub names: &'a [Renaming],
 }
 
 /// The file of which mentions are collected.
@@ -38,13 +40,25 @@ struct Place<'a> {
 }
 
 impl<'a> Place<'a> {
-    fn mention(self, gate: &'a Gate, path: Path, kind: MentionKind<'a>) -> Mention<'a> {
+    fn mention(self, gate: &'a Gate, path: &'a Path, kind: MentionKind) -> Mention<'a> {
         Mention {
             file: self.file,
             part: self.part,
             gate,
             path,
             kind,
+            names: &[],
+        }
+    }
+
+    fn mention_of_use(self, gate: &'a Gate, used: &'a UseNames) -> Mention<'a> {
+        Mention {
+            file: self.file,
+            part: self.part,
+            gate,
+            path: &used.path,
+            kind: MentionKind::Use,
+            names: used.names.as_slice(),
         }
     }
 }
@@ -75,7 +89,7 @@ fn add_item<'a>(
 ) -> Result<(), AllocError> {
     match &item.kind {
         ItemKind::Use(top) => {
-            mentions.push(place.mention(&item.gate, top.path, MentionKind::Interface))
+            mentions.push(place.mention(&item.gate, &top.path, MentionKind::Interface))
         }
         ItemKind::Interface(_, statements) => add_interface(mentions, place, statements.as_slice()),
         ItemKind::World(_, statements) => {
@@ -95,8 +109,7 @@ fn add_interface<'a>(
 ) -> Result<(), AllocError> {
     for statement in statements {
         if let InterfaceStatementKind::Use(used) = &statement.kind {
-            let kind = MentionKind::Use(used.names.as_slice());
-            mentions.push(place.mention(&statement.gate, used.path, kind))?;
+            mentions.push(place.mention_of_use(&statement.gate, used))?;
         }
     }
     Ok(())
@@ -111,11 +124,10 @@ fn add_world<'a>(
     for statement in statements {
         match &statement.kind {
             WorldStatementKind::Use(used) => {
-                let kind = MentionKind::Use(used.names.as_slice());
-                mentions.push(place.mention(&statement.gate, used.path, kind))?;
+                mentions.push(place.mention_of_use(&statement.gate, used))?;
             }
             WorldStatementKind::Include(include) => {
-                let mention = place.mention(&statement.gate, include.path, MentionKind::World);
+                let mention = place.mention(&statement.gate, &include.path, MentionKind::World);
                 mentions.push(mention)?;
             }
             WorldStatementKind::Import(_)
@@ -160,7 +172,7 @@ fn add_entry<'a>(
 ) -> Result<(), AllocError> {
     match entry {
         Entry::Path(path) | Entry::Labelled(_, path) => {
-            mentions.push(place.mention(gate, *path, MentionKind::Interface))
+            mentions.push(place.mention(gate, path, MentionKind::Interface))
         }
         Entry::Interface(_, statements) => add_interface(mentions, place, statements.as_slice()),
         Entry::Function(_, _) => Ok(()),

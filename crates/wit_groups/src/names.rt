@@ -3,7 +3,7 @@
 use crate::fault::{Fault, NameFault, RuleFault};
 use crate::order::{Need, Sorted, in_order};
 use crate::tables::add_new;
-use crate::written::{Body, Part, Scope};
+use crate::written::{Part, Scope};
 use std::alloc::{AllocError, Global};
 use wit_data::{AstItem, Items, Names};
 use wit_text::syntax::{
@@ -51,7 +51,7 @@ impl Directory {
     }
 
     /// The path to which a file gives the name that a path of it is, None where it gives it none.
-    pub fn alias(&self, file: usize, source: &str, path: Path) -> Option<Path> {
+    pub fn alias(&self, file: usize, source: &str, path: &Path) -> Option<Path> {
         if path.package.is_some() {
             return None;
         }
@@ -63,8 +63,11 @@ impl Directory {
     }
 
     /// A path in place of the name that its file has for it.
-    pub fn resolved(&self, file: usize, source: &str, path: Path) -> Path {
-        self.alias(file, source, path).unwrap_or(path)
+    pub fn resolved(&self, file: usize, source: &str, path: &Path) -> Path {
+        match self.alias(file, source, path) {
+            Some(found) => found,
+            None => *path,
+        }
     }
 
     /// The interface or world of the package that has this name.
@@ -92,7 +95,8 @@ impl Directory {
     pub fn order(&self, alloc: Global, scopes: &[Scope<'_>]) -> Result<Items<usize>, Fault> {
         let mut needs = Items::new(alloc);
         for scope in scopes {
-            needs.push(self.needs(alloc, scopes, *scope)?)?;
+            let needed = self.needs(alloc, scopes, scope)?;
+            needs.push(needed)?;
         }
         match in_order(alloc, needs.as_slice())? {
             Sorted::Order(order) => Ok(order),
@@ -105,11 +109,11 @@ impl Directory {
         &self,
         alloc: Global,
         scopes: &[Scope<'_>],
-        scope: Scope<'_>,
+        scope: &Scope<'_>,
     ) -> Result<Items<Need>, Fault> {
         let mut needs = Items::new(alloc);
-        for path in needed_paths(alloc, scope.body)?.iter() {
-            if let Some(need) = self.need(alloc, scopes, scope, *path)? {
+        for path in item_needs(alloc, scope.item)?.iter() {
+            if let Some(need) = self.need(alloc, scopes, scope, path)? {
                 needs.push(need)?;
             }
         }
@@ -122,27 +126,32 @@ impl Directory {
         &self,
         alloc: Global,
         scopes: &[Scope<'_>],
-        scope: Scope<'_>,
-        path: Path,
+        scope: &Scope<'_>,
+        path: &Path,
     ) -> Result<Option<Need>, Fault> {
         let source = scope.part.source;
-        let alias = self.alias(scope.file, source, path);
-        let found = alias.unwrap_or(path);
-        if found.package.is_some() {
+        if let Some(found) = self.alias(scope.file, source, path) {
+            return self.need_of(alloc, source, &found);
+        }
+        match self.need_of(alloc, source, path)? {
+            Some(need) => Ok(Some(shown_need(scopes, scope.file, need))),
+            None => Ok(None),
+        }
+    }
+
+    /// The need for what a path names, None where that is of another package.
+    fn need_of(&self, alloc: Global, source: &str, path: &Path) -> Result<Option<Need>, Fault> {
+        if path.package.is_some() {
             return Ok(None);
         }
-        let name = found.name.text(source);
-        let Some(target) = self.numbers.get(name) else {
-            return Err(Fault::name(alloc, found.name.span, NameFault::NoItem, name));
-        };
-        let span = match scopes.get(*target) {
-            Some(there) if alias.is_none() && there.file == scope.file => there.name.span,
-            _ => found.name.span,
-        };
-        Ok(Some(Need {
-            target: *target,
-            span,
-        }))
+        let name = path.name.text(source);
+        match self.numbers.get(name) {
+            Some(target) => Ok(Some(Need {
+                target: *target,
+                span: path.name.span,
+            })),
+            None => Err(Fault::name(alloc, path.name.span, NameFault::NoItem, name)),
+        }
     }
 
     /// Whether the `use` lines of files are without attributes and name what is there.
@@ -167,6 +176,17 @@ impl Directory {
             }
         }
         Ok(())
+    }
+}
+
+/// A need for what the file of a number may have itself, then with the place where that stands.
+fn shown_need(scopes: &[Scope<'_>], file: usize, need: Need) -> Need {
+    match scopes.get(need.target) {
+        Some(there) if there.file == file => Need {
+            target: need.target,
+            span: there.name.span,
+        },
+        _ => need,
     }
 }
 
@@ -232,23 +252,12 @@ fn check_needs(
     Ok(())
 }
 
-/// The paths that have to come before an item.
+/// The paths that have to come before an item: of an interface those that it uses, of a world those that it includes.
 fn item_needs(alloc: Global, item: &Item) -> Result<Items<Path>, AllocError> {
     match &item.kind {
-        ItemKind::Interface(_, statements) => {
-            needed_paths(alloc, Body::Interface(statements.as_slice()))
-        }
-        ItemKind::World(_, statements) => needed_paths(alloc, Body::World(statements.as_slice())),
+        ItemKind::Interface(_, statements) => used_paths(alloc, statements.as_slice()),
+        ItemKind::World(_, statements) => included_paths(alloc, statements.as_slice()),
         ItemKind::Use(_) => Ok(Items::new(alloc)),
-    }
-}
-
-/// The paths that have to come before an interface, which are those that it uses, or before a world, which are those that it
-/// includes.
-fn needed_paths(alloc: Global, body: Body<'_>) -> Result<Items<Path>, AllocError> {
-    match body {
-        Body::Interface(statements) => used_paths(alloc, statements),
-        Body::World(statements) => included_paths(alloc, statements),
     }
 }
 

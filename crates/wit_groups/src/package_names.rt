@@ -10,9 +10,9 @@ use wit_text::syntax::PackagePath;
 pub(crate) fn package_name(
     alloc: Global,
     source: &str,
-    path: PackagePath,
+    path: &PackagePath,
 ) -> Result<PackageName, Fault> {
-    let version = match path.version {
+    let version = match &path.version {
         Some(piece) => Some(version_of(alloc, source, piece)?),
         None => None,
     };
@@ -22,15 +22,15 @@ pub(crate) fn package_name(
 }
 
 /// Where the name of a package stands, with its version.
-pub(crate) fn package_span(path: PackagePath) -> Span {
-    match path.version {
+pub(crate) fn package_span(path: &PackagePath) -> Span {
+    match &path.version {
         Some(version) => up_to(path.namespace.span, version.span),
         None => up_to(path.namespace.span, path.name.span),
     }
 }
 
 /// Where the name of a package stands, without its version.
-pub(crate) fn bare_span(path: PackagePath) -> Span {
+pub(crate) fn bare_span(path: &PackagePath) -> Span {
     up_to(path.namespace.span, path.name.span)
 }
 

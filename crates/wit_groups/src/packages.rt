@@ -6,9 +6,10 @@ use crate::interfaces::WrittenInterface;
 use crate::mentions::mentions_of;
 use crate::names::Directory;
 use crate::scope::Context;
-use crate::written::{Body, Part, Scope, scopes_of};
+use crate::written::{Part, Scope, scopes_of};
 use std::alloc::Global;
 use wit_data::{AstItem, Docs, PackageName, Span, Text, UnresolvedPackage};
+use wit_text::syntax::ItemKind;
 
 /// What a package is called, where that stands, and its documentation.
 #[derive(Drop)]
@@ -54,83 +55,87 @@ impl Draft {
     /// Adds an interface or a world of which the name alone is known.
     fn begin(&mut self, scope: &Scope<'_>) -> Result<AstItem, Fault> {
         let name = Text::try_from_str(self.allocator(), scope.name.text(scope.part.source))?;
-        match scope.body {
-            Body::Interface(_) => {
+        match &scope.item.kind {
+            ItemKind::Interface(_, _) | ItemKind::Use(_) => {
                 let id = self.add_interface(Some(name), scope.name.span)?;
                 Ok(AstItem::Interface(id))
             }
-            Body::World(_) => Ok(AstItem::World(self.add_world(name, scope.name.span)?)),
+            ItemKind::World(_, _) => Ok(AstItem::World(self.add_world(name, scope.name.span)?)),
         }
     }
 
     /// Makes the interfaces in an order.
-    fn make_interfaces(
+    fn make_interfaces<'x>(
         &mut self,
-        directory: &Directory,
-        scopes: &[Scope<'_>],
+        directory: &'x Directory,
+        scopes: &[Scope<'x>],
         order: &[usize],
     ) -> Result<(), Fault> {
         for number in order {
             if let Some(scope) = scopes.get(*number) {
-                self.make_interface(directory, *number, *scope)?;
+                self.make_interface(directory, *number, scope)?;
             }
         }
         Ok(())
     }
 
-    fn make_interface(
+    fn make_interface<'x>(
         &mut self,
-        directory: &Directory,
+        directory: &'x Directory,
         number: usize,
-        scope: Scope<'_>,
+        scope: &Scope<'x>,
     ) -> Result<(), Fault> {
-        match (scope.body, directory.item_at(number)) {
-            (Body::Interface(statements), Some(AstItem::Interface(id))) => {
-                let written = WrittenInterface {
-                    gate: scope.gate,
-                    name: scope.name,
-                    is_in_place: false,
-                    statements,
-                };
-                context(self.allocator(), directory, scope).make_interface(self, id, written)
-            }
-            _ => Ok(()),
-        }
+        let ItemKind::Interface(_, statements) = &scope.item.kind else {
+            return Ok(());
+        };
+        let Some(AstItem::Interface(id)) = directory.item_at(number) else {
+            return Ok(());
+        };
+        let written = WrittenInterface {
+            gate: &scope.item.gate,
+            name: scope.name,
+            is_in_place: false,
+            statements: statements.as_slice(),
+        };
+        let context = context_of(self.allocator(), directory, scope);
+        context.make_interface(self, id, &written)
     }
 
     /// Makes the worlds in an order.
-    fn make_worlds(
+    fn make_worlds<'x>(
         &mut self,
-        directory: &Directory,
-        scopes: &[Scope<'_>],
+        directory: &'x Directory,
+        scopes: &[Scope<'x>],
         order: &[usize],
     ) -> Result<(), Fault> {
         for number in order {
             if let Some(scope) = scopes.get(*number) {
-                self.make_world(directory, *number, *scope)?;
+                self.make_world(directory, *number, scope)?;
             }
         }
         Ok(())
     }
 
-    fn make_world(
+    fn make_world<'x>(
         &mut self,
-        directory: &Directory,
+        directory: &'x Directory,
         number: usize,
-        scope: Scope<'_>,
+        scope: &Scope<'x>,
     ) -> Result<(), Fault> {
-        match (scope.body, directory.item_at(number)) {
-            (Body::World(statements), Some(AstItem::World(id))) => {
-                let context = context(self.allocator(), directory, scope);
-                context.make_world(self, id, scope.gate, scope.name, statements)
-            }
-            _ => Ok(()),
-        }
+        let ItemKind::World(_, statements) = &scope.item.kind else {
+            return Ok(());
+        };
+        let Some(AstItem::World(id)) = directory.item_at(number) else {
+            return Ok(());
+        };
+        let context = context_of(self.allocator(), directory, scope);
+        let gate = &scope.item.gate;
+        context.make_world(self, id, gate, &scope.name, statements.as_slice())
     }
 }
 
 /// Where an interface or a world stands.
-fn context<'a>(alloc: Global, directory: &'a Directory, scope: Scope<'a>) -> Context<'a> {
+fn context_of<'x>(alloc: Global, directory: &'x Directory, scope: &Scope<'x>) -> Context<'x> {
     Context {
         alloc,
         directory,

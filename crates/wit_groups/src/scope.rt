@@ -22,22 +22,22 @@ pub(crate) struct Context<'a> {
 
 impl<'a> Context<'a> {
     /// The text of a piece of the file.
-    pub fn text(&self, piece: Piece) -> &'a str {
+    pub fn text(&self, piece: &Piece) -> &'a str {
         piece.text(self.part.source)
     }
 
     /// A copy of the text of a piece of the file. The only error is want of memory.
-    pub fn copy(&self, piece: Piece) -> Result<Text, AllocError> {
+    pub fn copy(&self, piece: &Piece) -> Result<Text, AllocError> {
         Text::try_from_str(self.alloc, self.text(piece))
     }
 
     /// What is wrong with a name of the file.
-    pub fn name_fault(&self, piece: Piece, fault: NameFault) -> Fault {
+    pub fn name_fault(&self, piece: &Piece, fault: NameFault) -> Fault {
         Fault::name(self.alloc, piece.span, fault, self.text(piece))
     }
 
     /// The interface that a path of the file names.
-    pub fn interface(&self, draft: &Draft, path: Path) -> Result<InterfaceId, Fault> {
+    pub fn interface(&self, draft: &Draft, path: &Path) -> Result<InterfaceId, Fault> {
         draft.interface_at(self.directory, self.file, self.part.source, path)
     }
 }
@@ -83,7 +83,7 @@ impl<'a> ScopeDraft<'a> {
     }
 
     /// Says what a name stands for, which stands for nothing yet.
-    pub fn define(&mut self, name: Piece, named: Named) -> Result<(), Fault> {
+    pub fn define(&mut self, name: &Piece, named: Named) -> Result<(), Fault> {
         let key = String::from_str(self.context.alloc, self.context.text(name))?;
         if self.names.contains_key(key.as_str()) {
             return Err(self.context.name_fault(name, NameFault::DefinedTwice));
@@ -93,7 +93,7 @@ impl<'a> ScopeDraft<'a> {
     }
 
     /// The type of a name.
-    pub fn named_type(&self, name: Piece) -> Result<TypeId, Fault> {
+    pub fn named_type(&self, name: &Piece) -> Result<TypeId, Fault> {
         match self.names.get(self.context.text(name)) {
             Some(Named::Type_(id)) => Ok(*id),
             Some(Named::Function) => {
@@ -110,10 +110,10 @@ impl<'a> ScopeDraft<'a> {
         gate: &Gate,
         used: &UseNames,
     ) -> Result<(), Fault> {
-        let id = self.context.interface(draft, used.path)?;
+        let id = self.context.interface(draft, &used.path)?;
         let common = common_of(self.context.alloc, self.context.part.source, gate, false)?;
         for renaming in used.names.iter() {
-            self.use_name(draft, id, *renaming, &common.stability)?;
+            self.use_name(draft, id, renaming, &common.stability)?;
         }
         Ok(())
     }
@@ -123,22 +123,22 @@ impl<'a> ScopeDraft<'a> {
         &mut self,
         draft: &mut Draft,
         id: InterfaceId,
-        renaming: Renaming,
+        renaming: &Renaming,
         stability: &Stability,
     ) -> Result<(), Fault> {
-        let target = self.used_type(draft, id, renaming.name)?;
+        let target = self.used_type(draft, id, &renaming.name)?;
         let stability = stability.try_clone()?;
         let kind = TypeDefKind::Type_(Type_::Id(target));
-        let name = self.context.copy(renaming.new)?;
+        let name = self.context.copy(&renaming.new)?;
         let mut def = TypeDef::new(Some(name), kind, self.owner);
         def.stability = stability;
         def.span = renaming.name.span;
         let made = draft.add_type(def)?;
-        self.define(renaming.new, Named::Type_(made))
+        self.define(&renaming.new, Named::Type_(made))
     }
 
     /// The type of an interface that has this name.
-    fn used_type(&self, draft: &Draft, id: InterfaceId, name: Piece) -> Result<TypeId, Fault> {
+    fn used_type(&self, draft: &Draft, id: InterfaceId, name: &Piece) -> Result<TypeId, Fault> {
         match draft.name_in(id, self.context.text(name)) {
             Some(Named::Type_(ty)) => Ok(ty),
             Some(Named::Function) => Err(self.context.name_fault(name, NameFault::UsedFunction)),

@@ -51,7 +51,7 @@ impl<'a> Context<'a> {
 
     /// The documentation of a member.
     fn member_docs(&self, member: &Member) -> Result<Docs, AllocError> {
-        docs_of(self.alloc, self.part.source, member.docs)
+        docs_of(self.alloc, self.part.source, &member.docs)
     }
 }
 
@@ -128,14 +128,14 @@ impl<'a> ScopeDraft<'a> {
         match &node.kind {
             TypeNodeKind::Primitive(word) => Ok(TypeDefKind::Type_(primitive(*word))),
             TypeNodeKind::Named(name) => {
-                Ok(TypeDefKind::Type_(Type_::Id(self.named_type(*name)?)))
+                Ok(TypeDefKind::Type_(Type_::Id(self.named_type(name)?)))
             }
             TypeNodeKind::Own(name) => {
-                let id = self.resource(draft, *name)?;
+                let id = self.resource(draft, name)?;
                 Ok(TypeDefKind::Handle(Handle::Own(id)))
             }
             TypeNodeKind::Borrow(name) => {
-                let id = self.resource(draft, *name)?;
+                let id = self.resource(draft, name)?;
                 Ok(TypeDefKind::Handle(Handle::Borrow(id)))
             }
             TypeNodeKind::Tuple(indices) => {
@@ -150,7 +150,7 @@ impl<'a> ScopeDraft<'a> {
     }
 
     /// The resource of a handle: a type that is one, or is another package's and has to be one.
-    fn resource(&self, draft: &mut Draft, name: Piece) -> Result<TypeId, Fault> {
+    fn resource(&self, draft: &mut Draft, name: &Piece) -> Result<TypeId, Fault> {
         let id = self.named_type(name)?;
         let root = draft.root(id);
         if draft.is_unknown(root) {
@@ -180,7 +180,7 @@ impl<'a> ScopeDraft<'a> {
             return Err(missing_part());
         };
         let ty = self.type_of(draft, range, gate)?;
-        let name = self.context.copy(member.name)?;
+        let name = self.context.copy(&member.name)?;
         let docs = self.context.member_docs(member)?;
         Ok(Field {
             name,
@@ -209,7 +209,7 @@ impl<'a> ScopeDraft<'a> {
             Some(range) => Some(self.type_of(draft, range, gate)?),
             None => None,
         };
-        let name = self.context.copy(member.name)?;
+        let name = self.context.copy(&member.name)?;
         let docs = self.context.member_docs(member)?;
         Ok(Case {
             name,
@@ -223,7 +223,7 @@ impl<'a> ScopeDraft<'a> {
     pub fn enumeration(&self, members: &[Member]) -> Result<TypeDefKind, AllocError> {
         let mut cases = Items::new(self.context.alloc);
         for member in members {
-            let name = self.context.copy(member.name)?;
+            let name = self.context.copy(&member.name)?;
             let docs = self.context.member_docs(member)?;
             cases.push(EnumCase {
                 name,
@@ -238,7 +238,7 @@ impl<'a> ScopeDraft<'a> {
     pub fn flags(&self, members: &[Member]) -> Result<TypeDefKind, AllocError> {
         let mut flags = Items::new(self.context.alloc);
         for member in members {
-            let name = self.context.copy(member.name)?;
+            let name = self.context.copy(&member.name)?;
             let docs = self.context.member_docs(member)?;
             flags.push(Flag {
                 name,

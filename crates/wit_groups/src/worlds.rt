@@ -5,7 +5,7 @@ use crate::fault::{EntrySide, EntrySort, Fault, NameFault, RuleFault};
 use crate::gates::common_of;
 use crate::interfaces::WrittenInterface;
 use crate::scope::{Context, ScopeDraft};
-use crate::written::{Body, type_statements};
+use crate::written::world_types;
 use std::alloc::AllocError;
 use wit_data::{
     Docs, Function, IncludeName, Items, Span, Table, Text, TryClone, TypeOwner, World, WorldId,
@@ -34,12 +34,12 @@ impl<'a> Context<'a> {
         draft: &mut Draft,
         id: WorldId,
         gate: &Gate,
-        name: Piece,
+        name: &Piece,
         statements: &'a [WorldStatement],
     ) -> Result<(), Fault> {
         let (docs, stability) = self.head(gate, false)?;
         let mut scope = ScopeDraft::new(self, TypeOwner::World(id));
-        let types = type_statements(self.alloc, Body::World(statements))?;
+        let types = world_types(self.alloc, statements)?;
         scope.define_types(draft, types.as_slice())?;
         let mut world = World::new(self.alloc, self.copy(name)?);
         world.docs = docs;
@@ -72,7 +72,7 @@ impl<'a> Context<'a> {
     fn include(self, draft: &Draft, gate: &Gate, include: &Include) -> Result<WorldInclude, Fault> {
         let source = self.part.source;
         let common = common_of(self.alloc, source, gate, false)?;
-        let id = draft.world_at(self.directory, self.file, source, include.path)?;
+        let id = draft.world_at(self.directory, self.file, source, &include.path)?;
         let names = self.include_names(include.names.as_slice())?;
         Ok(WorldInclude {
             stability: common.stability,
@@ -86,8 +86,8 @@ impl<'a> Context<'a> {
     fn include_names(self, renamings: &[Renaming]) -> Result<Items<IncludeName>, AllocError> {
         let mut names = Items::new(self.alloc);
         for renaming in renamings {
-            let name = self.copy(renaming.name)?;
-            let as_ = self.copy(renaming.new)?;
+            let name = self.copy(&renaming.name)?;
+            let as_ = self.copy(&renaming.new)?;
             names.push(IncludeName { name, as_ })?;
         }
         Ok(names)
@@ -121,7 +121,7 @@ impl<'a> ScopeDraft<'a> {
             WorldStatementKind::Define(definition) => match &definition.kind {
                 DefinitionKind::Resource(functions) => {
                     let functions = functions.as_slice();
-                    self.import_methods(draft, &mut world.imports, definition.name, functions)
+                    self.import_methods(draft, &mut world.imports, &definition.name, functions)
                 }
                 _ => Ok(()),
             },
@@ -142,7 +142,7 @@ impl<'a> ScopeDraft<'a> {
         &self,
         draft: &mut Draft,
         imports: &mut Entries,
-        resource: Piece,
+        resource: &Piece,
         written: &[ResourceFunction],
     ) -> Result<(), Fault> {
         for function in written {
@@ -176,7 +176,7 @@ impl<'a> ScopeDraft<'a> {
             Entry::Path(_) => Fault::rule(span, RuleFault::EntryTwice(side)),
             Entry::Labelled(label, _) | Entry::Function(label, _) | Entry::Interface(label, _) => {
                 let fault = NameFault::EntryConflict(side, sort);
-                Fault::name(self.context.alloc, span, fault, self.context.text(*label))
+                Fault::name(self.context.alloc, span, fault, self.context.text(label))
             }
         }
     }
@@ -189,18 +189,18 @@ impl<'a> ScopeDraft<'a> {
         entry: &'a Entry,
     ) -> Result<MadeEntry, Fault> {
         match entry {
-            Entry::Path(path) => self.path_entry(draft, gate, *path, None),
-            Entry::Labelled(label, path) => self.path_entry(draft, gate, *path, Some(*label)),
+            Entry::Path(path) => self.path_entry(draft, gate, path, None),
+            Entry::Labelled(label, path) => self.path_entry(draft, gate, path, Some(label)),
             Entry::Function(label, signature) => {
-                let function = self.free_function(draft, gate, *label, signature)?;
+                let function = self.free_function(draft, gate, label, signature)?;
                 Ok(MadeEntry {
-                    key: WorldKey::Name(self.context.copy(*label)?),
+                    key: WorldKey::Name(self.context.copy(label)?),
                     item: WorldItem::Function(function),
                     span: label.span,
                 })
             }
             Entry::Interface(label, statements) => {
-                self.in_place_entry(draft, gate, *label, statements.as_slice())
+                self.in_place_entry(draft, gate, label, statements.as_slice())
             }
         }
     }
@@ -210,8 +210,8 @@ impl<'a> ScopeDraft<'a> {
         &self,
         draft: &Draft,
         gate: &Gate,
-        path: Path,
-        label: Option<Piece>,
+        path: &Path,
+        label: Option<&Piece>,
     ) -> Result<MadeEntry, Fault> {
         let common = common_of(self.context.alloc, self.context.part.source, gate, true)?;
         let id = self.context.interface(draft, path)?;
@@ -238,18 +238,18 @@ impl<'a> ScopeDraft<'a> {
         &self,
         draft: &mut Draft,
         gate: &'a Gate,
-        label: Piece,
+        label: &Piece,
         statements: &'a [InterfaceStatement],
     ) -> Result<MadeEntry, Fault> {
         let common = common_of(self.context.alloc, self.context.part.source, gate, true)?;
         let id = draft.add_interface(None, label.span)?;
         let written = WrittenInterface {
             gate,
-            name: label,
+            name: *label,
             is_in_place: true,
             statements,
         };
-        self.context.make_interface(draft, id, written)?;
+        self.context.make_interface(draft, id, &written)?;
         Ok(MadeEntry {
             key: WorldKey::Name(self.context.copy(label)?),
             item: WorldItem::Interface {

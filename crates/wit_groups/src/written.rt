@@ -15,21 +15,13 @@ pub(crate) struct Part<'a> {
     pub items: &'a [Item],
 }
 
-/// What an interface or a world states.
-#[derive(Clone, Copy)]
-pub(crate) enum Body<'a> {
-    Interface(&'a [InterfaceStatement]),
-    World(&'a [WorldStatement]),
-}
-
 /// An interface or a world of a file, which has this number among the files of the package.
 #[derive(Clone, Copy)]
 pub(crate) struct Scope<'a> {
     pub file: usize,
     pub part: Part<'a>,
-    pub gate: &'a Gate,
     pub name: Piece,
-    pub body: Body<'a>,
+    pub item: &'a Item,
 }
 
 /// The interfaces and worlds of a package, in the order of its files. The only error is want of memory.
@@ -59,18 +51,15 @@ fn add_scopes<'a>(
 
 /// The interface or the world that an item is.
 fn scope_of<'a>(file: usize, part: Part<'a>, item: &'a Item) -> Option<Scope<'a>> {
-    let (name, body) = match &item.kind {
-        ItemKind::Interface(name, statements) => (*name, Body::Interface(statements.as_slice())),
-        ItemKind::World(name, statements) => (*name, Body::World(statements.as_slice())),
-        ItemKind::Use(_) => return None,
-    };
-    Some(Scope {
-        file,
-        part,
-        gate: &item.gate,
-        name,
-        body,
-    })
+    match &item.kind {
+        ItemKind::Interface(name, _) | ItemKind::World(name, _) => Some(Scope {
+            file,
+            part,
+            name: *name,
+            item,
+        }),
+        ItemKind::Use(_) => None,
+    }
 }
 
 /// A statement that gives types names.
@@ -80,18 +69,8 @@ pub(crate) enum TypeStatement<'a> {
     Define(&'a Gate, &'a Definition),
 }
 
-/// The statements of an interface or a world that give types names. The only error is want of memory.
-pub(crate) fn type_statements<'a>(
-    alloc: Global,
-    body: Body<'a>,
-) -> Result<Items<TypeStatement<'a>>, AllocError> {
-    match body {
-        Body::Interface(statements) => interface_types(alloc, statements),
-        Body::World(statements) => world_types(alloc, statements),
-    }
-}
-
-fn interface_types<'a>(
+/// The statements of an interface that give types names. The only error is want of memory.
+pub(crate) fn interface_types<'a>(
     alloc: Global,
     statements: &'a [InterfaceStatement],
 ) -> Result<Items<TypeStatement<'a>>, AllocError> {
@@ -110,7 +89,8 @@ fn interface_types<'a>(
     Ok(found)
 }
 
-fn world_types<'a>(
+/// The statements of a world that give types names. The only error is want of memory.
+pub(crate) fn world_types<'a>(
     alloc: Global,
     statements: &'a [WorldStatement],
 ) -> Result<Items<TypeStatement<'a>>, AllocError> {

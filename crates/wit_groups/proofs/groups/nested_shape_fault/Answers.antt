@@ -11,4 +11,4 @@ loop-package-preserved c =
     (slice_get_read packages _ c.loop-package.package-index c.package-item.result refl c.loop-package-test.true c.package-item.is) c.in_ok-fault.ensures.none c.in_default.is
 
 pub returns : goal.returns
-returns c = all_of c.loop-package.invariant c.loop-package-test.false
+returns c = λ _. all_of c.loop-package.invariant c.loop-package-test.false
