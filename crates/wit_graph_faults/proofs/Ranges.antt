@@ -1,5 +1,5 @@
 -- What types refer to and packages depend on is there.
-use Rattle.std.proofs.Common.{◌≡◌, ◌∙◌, ℕ, ◌<◌, ◌≤◌, ◌+◌, ◌⊎◌, inl, inr, Bool, true, false, List, [], ◌∷◌, length, get_or, filter_map, map, Option, option_map, Some, None, option_and_then, slice_get, refl, ap, sym, subst, arith, Contains, if◌then◌else◌, ◌==◌}
+use Rattle.std.proofs.Common.{◌≡◌, ◌∙◌, ℕ, ◌<◌, ◌≤◌, ◌⊎◌, inl, inr, Bool, true, false, List, [], ◌∷◌, length, get_or, filter_map, Option, option_map, Some, None, option_and_then, slice_get, refl, ap, sym, subst, arith, Contains, if◌then◌else◌, ◌==◌}
 use Rattle.std.specs.Prelude.{IsSomeAnd, IfSome}
 use Rattle.std.specs.List.{cons_option, enumerate_from}
 use Rattle.std.proofs.lemmas.List.{length-map, get_or_past}

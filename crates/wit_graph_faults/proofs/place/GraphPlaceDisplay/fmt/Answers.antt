@@ -1,4 +1,4 @@
-use Rattle.std.proofs.Common.{ℕ, List, ◌++◌, subst, sym}
+use Rattle.std.proofs.Common.{ℕ, ◌++◌, subst, sym}
 use Rattle.std.specs.Prelude.{codes, decimal}
 use Rattle.std.specs.Fmt.{HasWritten}
 use Rattle.wit_graph_faults.specs.FaultText.{graph_place_text}
