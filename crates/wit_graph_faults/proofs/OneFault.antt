@@ -1,5 +1,5 @@
 -- A graph has one first fault at most, and none where it is valid.
-use Rattle.std.proofs.Common.{◌≡◌, ◌∙◌, ◌⊎◌, inl, inr, List, Option, None, Some, Result, Ok, Err, refl, sym, ap, subst}
+use Rattle.std.proofs.Common.{◌≡◌, ◌∙◌, ◌⊎◌, inl, inr, Option, None, Some, Result, Ok, Err, refl, sym, ap, subst}
 use Rattle.std.specs.Prelude.{◌↔◌, IfOk, IsNone}
 use Rattle.wit_data.specs.Kind.{type_references}
 use Rattle.wit_data.specs.Uses.{uses_of}

@@ -1,5 +1,5 @@
 -- What types refer to and packages depend on is there.
-use Rattle.std.proofs.Common.{◌≡◌, ◌∙◌, ℕ, ◌<◌, ◌≤◌, ◌+◌, ◌⊎◌, inl, inr, Bool, true, false, List, [], ◌∷◌, length, get_or, filter_map, map, Option, option_map, Some, None, option_and_then, slice_get, refl, ap, sym, subst, arith, Contains, if◌then◌else◌, ◌==◌}
+use Rattle.std.proofs.Common.{◌≡◌, ◌∙◌, ℕ, ◌<◌, ◌≤◌, ◌⊎◌, inl, inr, Bool, true, false, List, [], ◌∷◌, length, get_or, filter_map, Option, option_map, Some, None, option_and_then, slice_get, refl, ap, sym, subst, arith, Contains, if◌then◌else◌, ◌==◌}
 use Rattle.std.specs.Prelude.{IsSomeAnd, IfSome}
 use Rattle.std.specs.List.{cons_option, enumerate_from}
 use Rattle.std.proofs.lemmas.List.{length-map, get_or_past}
@@ -47,13 +47,13 @@ references_there types ranged i def at k id on =
     let there : slice_get (direct (type_references types) i) k ≡ Some id = subst (λ (l : List ℕ). slice_get l k ≡ Some id) (sym row) on in
     let within : k < length (direct (type_references types) i) = slice_get_within (direct (type_references types) i) k id there in
     let is : get_or (direct (type_references types) i) k id ≡ id = get_or_from_slice_get (direct (type_references types) i) k id id there in
-    let less : get_or (direct (type_references types) i) k id < length (type_references types) = ranged i id k within in
+    let less : get_or (direct (type_references types) i) k id < length (type_references types) = ranged i k id within in
     let long = length-references types in
     omega arith
 
 -- and the other way round
 pub references_in_range : (types : List TypeDef) → Each (RefersToThere types) types → IsInRange (type_references types)
-references_in_range types there i d k below = by (slice_get types i) refl
+references_in_range types there i k d below = by (slice_get types i) refl
   where
     by : (o : Option TypeDef) → slice_get types i ≡ o → get_or (direct (type_references types) i) k d < length (type_references types)
     by None at =
@@ -116,7 +116,7 @@ module _ (packages : List Package) (interfaces : List Interface) (tables : EachA
     row_is p = slice_get-map row_of (enumerate_from 0 packages) p
 
     pub packages_in_range : IsInRange rows
-    packages_in_range p d k below = by (slice_get (enumerate_from 0 packages) p) refl
+    packages_in_range p k d below = by (slice_get (enumerate_from 0 packages) p) refl
       where
         by : (o : Option (ℕ × Package)) → slice_get (enumerate_from 0 packages) p ≡ o → get_or (direct rows p) k d < length rows
         by None at =

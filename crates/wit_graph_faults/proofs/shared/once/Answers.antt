@@ -1,4 +1,4 @@
-use Rattle.std.proofs.Common.{ℕ, take, refl}
+use Rattle.std.proofs.Common.{take, refl}
 use Rattle.std.specs.Prelude.{Contains}
 use Rattle.wit_data.specs.Entries.{StandOnce}
 use Rattle.wit_shape.specs.Faults.{unnamed_in_worlds}
