@@ -28,7 +28,8 @@ functions_of_id g key i = option_map_or (functions_of_interface key) (slice_get 
 -- the functions of an entry of a world
 abbrev pub functions_of_entry : Graph → Entry → List WorldFunction
 functions_of_entry g (key, item.Function f) = (None, f) ∷ []
-functions_of_entry g (key, item.Interface id stability docs span external_id) = functions_of_id g key id
+functions_of_entry g (key, item.Interface id stability docs span external_id) =
+    functions_of_id g key id
 functions_of_entry g (key, item.Type_ id span) = []
 
 -- the module and the field of a function that is imported, as `import_names` has them

@@ -110,7 +110,8 @@ first_unknown g entries (key ∷ keys) =
 
 -- the imports of the world of an id, and its name
 abbrev pub world_imports : Graph → ℕ → List Entry
-world_imports g w = unwrap_or (option_map (λ (world : World). world.imports) (slice_get g.worlds w)) []
+world_imports g w =
+    unwrap_or (option_map (λ (world : World). world.imports) (slice_get g.worlds w)) []
 
 abbrev pub name_at : Graph → ℕ → List ℕ
 name_at g w = unwrap_or (option_map (λ (world : World). world.name) (slice_get g.worlds w)) []

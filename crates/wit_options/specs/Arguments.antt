@@ -1,13 +1,11 @@
 -- What the words behind the program's name ask for.
-use Rattle.std.specs.Prelude.{◌≡◌, ◌⊎◌, ℕ, Bool, true, false, List, [], ◌∷◌, ◌++◌, Option, Some, None, Result, Ok, Err, ◌&&◌, ◌||◌, ◌==◌, bytes_eq, codes, if◌then◌else◌}
+use Rattle.std.specs.Prelude.{ℕ, Bool, true, false, List, [], ◌∷◌, ◌++◌, Option, Some, None, Result, Ok, Err, ◌&&◌, ◌||◌, ◌==◌, bytes_eq, codes, if◌then◌else◌}
 use Rattle.std.specs.List.{list_any, slice_split}
 use Rattle.std.specs.Option.{option_map_or}
 use Rattle.wit_options.specs.Words.{split_at_first}
 use Rattle.wit_options.specs.declared.arguments.Asked.{Asked}
 use Rattle.wit_options.specs.declared.arguments.Asked.TheVariants as asked
 use Rattle.wit_options.specs.declared.arguments.Reading.{Reading}
-use Rattle.wit_options.specs.declared.arguments.Stop.{Stop}
-use Rattle.wit_options.specs.declared.arguments.Stop.TheVariants as stop
 use Rattle.wit_options.specs.declared.arguments.Valued.{Valued}
 use Rattle.wit_options.specs.declared.arguments.Valued.TheVariants as valued
 use Rattle.wit_options.specs.declared.arguments.WordKind.{WordKind}
@@ -238,11 +236,3 @@ asked_from reading (word ∷ words) = asked_then (λ r. asked_from r words) (tak
 -- what words ask for
 abbrev pub asked_for : List (List ℕ) → Asked
 asked_for words = asked_from (record { options = no_options; waiting = None }) words
-
--- ---- steps
-
--- what stops is want of memory, or what is asked for
-abbrev pub IsStop : {A : Type 0} → Result A Asked → Stop → Type 0
-IsStop wanted told =
-    (told ≡ stop.OutOfMemory)
-    ⊎ ((asked : Asked) × (told ≡ stop.Asked asked) × (wanted ≡ Err asked))

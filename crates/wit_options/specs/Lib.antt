@@ -3,3 +3,4 @@ pub mod Outcome
 pub mod Turns
 pub mod UsageText
 pub mod Words
+pub mod steps

@@ -22,5 +22,5 @@ failure_of (outcome.Usage text) = 2
 failure_of _ = 1
 
 -- a text is written behind known bytes, or the writer has failed
-abbrev pub IsWritten : Option (List ℕ) → Option (List ℕ) → Bool → List ℕ → Type 0
-IsWritten old new has_failed text = Appends old new text ⊎ (has_failed ≡ true)
+abbrev pub WritesOrFails : Option (List ℕ) → Option (List ℕ) → Bool → List ℕ → Type 0
+WritesOrFails old new has_failed text = Appends old new text ⊎ (has_failed ≡ true)

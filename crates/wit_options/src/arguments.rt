@@ -1,6 +1,7 @@
 //! From the words behind a program's name to what they ask for.
 ghost use Rattle.std.specs.Prelude.{◌≡◌, ◌⊎◌, ◌++◌, None, Ok, false, true, IfErr, IfOk, OnOk, map, string_bytes};
-ghost use Rattle.wit_options.specs.Arguments.{IsStop, asked_for, ended, exportizing, has_input, is_read_again, joined_outputs, mangling_named, no_options, not_a_value, output_named, parts_of, path_kind, reads_input, taken, taken_as, track_rule_named, twice, valued_named, with_merge, with_output, with_path, with_track_rule, with_turn, with_option, asking_about, word_kind, option_word};
+ghost use Rattle.wit_options.specs.Arguments.{asked_for, ended, exportizing, has_input, is_read_again, joined_outputs, mangling_named, no_options, not_a_value, output_named, parts_of, path_kind, reads_input, taken, taken_as, track_rule_named, twice, valued_named, with_merge, with_output, with_path, with_track_rule, with_turn, with_option, asking_about, word_kind, option_word};
+ghost use Rattle.wit_options.specs.steps.Stops.{IsStop};
 ghost use Rattle.wit_options.specs.declared.arguments.Stop.TheVariants as stop;
 
 use crate::options::{Options, Output, Turn};

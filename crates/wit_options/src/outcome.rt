@@ -2,7 +2,7 @@
 ghost use Rattle.std.specs.Prelude.{◌≡◌, ◌⊎◌, Err, List, None, Ok, Some, ℕ, codes, true};
 ghost use Rattle.std.specs.Io.KnownBytes.{Appends};
 ghost use Rattle.wit_options.specs.declared.outcome.Outcome.TheVariants as ends;
-ghost use Rattle.wit_options.specs.Outcome.{IsWritten, written_answer, complaint_of, failure_of};
+ghost use Rattle.wit_options.specs.Outcome.{WritesOrFails, written_answer, complaint_of, failure_of};
 
 use std::alloc::AllocError;
 use std::io::Write;
@@ -45,8 +45,8 @@ pub fn deliver<W: Write, E: Write>(
     ensures unwritten { result ≡ failure_of outcome.now
         → (written_answer outcome.now ≡ None) ⊎ (output.new.failed ≡ true) }
     ensures told { result ≡ failure_of outcome.now
-        → IsWritten (E.contents errors.old.inner) (E.contents errors.new.inner) errors.new.failed
-        (complaint_of outcome.now) }
+        → WritesOrFails (E.contents errors.old.inner) (E.contents errors.new.inner)
+        errors.new.failed (complaint_of outcome.now) }
 {
     match outcome {
         Outcome::Done(text) => deliver_answer(text.as_str(), output, errors),
@@ -77,8 +77,8 @@ fn deliver_answer<W: Write, E: Write>(
     ensures quiet { result ≡ 0 → errors.new ≡ errors.old }
     ensures unwritten { result ≡ 1 → output.new.failed ≡ true }
     ensures told { result ≡ 1
-        → IsWritten (E.contents errors.old.inner) (E.contents errors.new.inner) errors.new.failed
-        (codes "wit: the output can't be written\n") }
+        → WritesOrFails (E.contents errors.old.inner) (E.contents errors.new.inner)
+        errors.new.failed (codes "wit: the output can't be written\n") }
 {
     match write_all(output, text) {
         Ok(()) => 0,
@@ -91,8 +91,8 @@ fn deliver_answer<W: Write, E: Write>(
 
 /// Writes a text where it can.
 fn tell<E: Write>(text: &str, errors: &mut Watched<E>)
-    ensures { IsWritten (E.contents errors.old.inner) (E.contents errors.new.inner) errors.new.failed
-        text.now }
+    ensures { WritesOrFails (E.contents errors.old.inner) (E.contents errors.new.inner)
+        errors.new.failed text.now }
 {
     let _is_told = write_all(errors, text);
 }

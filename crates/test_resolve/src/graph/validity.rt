@@ -58,7 +58,7 @@ pub(crate) enum Breach {
 }
 
 /// Each breach, and why the graph isn't valid then.
-const BREACHES: [(Breach, &'static str); 35] = [
+const BREACHES: [(Breach, &str); 35] = [
     (
         Breach::NameOfOther,
         "entry 2 among the names of packages names a package that isn't there or has another name",
