@@ -133,6 +133,10 @@ with_record p name fields here =
     (λ (made : List Field × Draft). with_named made.1 name (kind.Record made.0) here)
     (each_made (field_made here) fields p)
 
+-- the type of this name in the interface that a path names
+abbrev pub used_type : Draft → ParsedUsePath → List ℕ → Option ℕ
+used_type p from name = option_and_then (type_at p name) (interface_named p from)
+
 -- `use PATH NAME NEW`
 abbrev pub with_use : Draft → ParsedUsePath → List ℕ → List ℕ → LineContext → Option Draft
 with_use p from name new here =
@@ -213,10 +217,6 @@ world_type p name = option_and_then (world_type_at p name) (open_world p)
 -- what the name of a type names: a primitive, or else an earlier type
 abbrev pub type_named : Draft → List ℕ → Option Type_
 type_named p name = option_or (primitive_of name) (option_map type.Id (earlier p name))
-
--- the type of this name in the interface that a path names
-abbrev pub used_type : Draft → ParsedUsePath → List ℕ → Option ℕ
-used_type p from name = option_and_then (type_at p name) (interface_named p from)
 
 -- the resource of a constructor: an earlier type
 abbrev pub constructor_resource : Draft → List ℕ → Option ℕ
