@@ -2,7 +2,7 @@
 use Rattle.std.proofs.Common.{◌≡◌, ◌∙◌, ◌+◌, ℕ, zero, suc, List, [], ◌∷◌, Option, None, Some, drop, refl, sym, ap, arith}
 use Rattle.std.specs.Prelude.{MatchOption}
 
-behind_first : {X : Type 0} → List X → List X
+abbrev behind_first : {X : Type 0} → List X → List X
 behind_first [] = []
 behind_first (x ∷ xs) = xs
 
