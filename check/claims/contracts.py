@@ -99,7 +99,7 @@ def stale_walk(path, text):
         return
     for item in re.findall(r"(?m)^\d+\. (.*)$", text):
         crate = ""
-        for found in re.finditer(r"(?:`(\w+)` \()?(?:`(wit\w+)`, )?`(\w+\.rt)`(?::(?: a)? `(\w+)`)?", item):
+        for found in re.finditer(r"(?:`(\w+)` \()?(?:`(wit\w*)`, )?`(\w+\.rt)`(?::(?: a)? `(\w+)`)?", item):
             before, of, file, behind = found.groups()
             crate = of or crate
             if not (name := before or behind):
