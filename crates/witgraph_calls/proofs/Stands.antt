@@ -80,7 +80,7 @@ all_stands state = record {
   interfaces = all_first (length state.graph.interfaces) state.graph.interfaces (omega arith);
   types = all_first (length state.graph.types) state.graph.types (omega arith);
   packages = all_first (length state.graph.packages) state.graph.packages (omega arith);
-  files = all_first (length state.source_map.files) (files_of state.source_map.files) (let long = length-map state.source_map.files (λ (file : SourceFile). (file.path, file.contents)) in omega (arith, long));
+  files = all_first (length state.source_map.files) (files_of state.source_map.files) (let long : length (files_of state.source_map.files) ≡ length state.source_map.files = length-map state.source_map.files (λ (file : SourceFile). (file.path, file.contents)) in omega (arith, long));
 }
 
 pub news_complete : (told : Told) (old new : State) → Stands told old new → CompletesAll told old new
@@ -228,7 +228,7 @@ merge_stands told first old other new _ step stands = absurd step
 
 order_stands : (told : Told) (first old new : State) (it : Order) (answer : Response) → Responds old it answer new → Stands told first old → Stands (left_after it told) first new
 order_stands told first old new (order.Request (request.Change it)) (response.Answer answer) (inl done) stands =
-    change_stands told first old new it done.answered.reply done.answered.step stands
+    change_stands told first old new it done.1.reply done.1.step stands
 order_stands told first old new (order.Request (request.Change it)) (response.Answer answer) (inr unshaped) stands = left_alone told first old new it unshaped.same stands
 order_stands told first old new (order.Request (request.Ask it)) (response.Answer answer) done stands = unchanged told first old new done.1 stands
 order_stands told first old new (order.Merge its) (response.Merge answers answer) done stands = merge_stands told first old done.other new done.merged.reply done.merged.step stands
