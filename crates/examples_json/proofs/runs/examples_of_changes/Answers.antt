@@ -34,8 +34,8 @@ returns c = record {
   not_published = λ same. cc;
   two = (
     with_f,
-    inl (record { shaped = tt; answered = record { reply = reply.Done; step = refl; answers = refl } }),
-    (with_f, inl (record { shaped = tt; answered = record { reply = reply.Done; step = refl; answers = refl } }), refl),
+    inl (tt, record { reply = reply.Done; step = refl; answers = refl }),
+    (with_f, inl (tt, record { reply = reply.Done; step = refl; answers = refl }), refl),
   );
   not_one = λ each. each.2;
   nothing = refl;

@@ -40,4 +40,7 @@ returns c = record {
   no_list = refl;
   no_word = refl;
   no_resolve = refl;
+  lenient = refl;
+  not_lenient = refl;
+  not_of_commands = refl;
 }
