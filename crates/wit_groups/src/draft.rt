@@ -116,9 +116,9 @@ impl Draft {
     }
 
     /// What a name of an interface stands for, None where it is no name of it.
-    pub fn name_in(&self, id: InterfaceId, name: &str) -> Option<Named> {
+    pub fn name_in(&self, id: InterfaceId, name: &str) -> Option<&Named> {
         let names = self.names.get(id.index())?;
-        names.get(name).copied()
+        names.get(name)
     }
 
     /// Puts an interface in the place of one of which the name alone was known.

@@ -140,7 +140,7 @@ impl<'a> ScopeDraft<'a> {
     /// The type of an interface that has this name.
     fn used_type(&self, draft: &Draft, id: InterfaceId, name: &Piece) -> Result<TypeId, Fault> {
         match draft.name_in(id, self.context.text(name)) {
-            Some(Named::Type_(ty)) => Ok(ty),
+            Some(Named::Type_(ty)) => Ok(*ty),
             Some(Named::Function) => Err(self.context.name_fault(name, NameFault::UsedFunction)),
             None => Err(self.context.name_fault(name, NameFault::NoName)),
         }
