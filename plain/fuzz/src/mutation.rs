@@ -136,7 +136,7 @@ fn change_part(random: &mut Random, text: &mut Vec<u8>, other: &[u8], sort: Sort
     match random.below(4) {
         0 => drop(text.drain(with_separator(text, place, sort))),
         1 => drop(text.splice(start..start, [&part, sort.separator()].concat())),
-        2 => drop(text.splice(start..start, [&text[place].to_vec(), sort.separator()].concat())),
+        2 => drop(text.splice(start..start, [&text[place], sort.separator()].concat())),
         _ => drop(text.splice(place, part)),
     }
 }
