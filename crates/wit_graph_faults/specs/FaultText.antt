@@ -77,8 +77,10 @@ graph_clause_text clause.WorldsImportedFunctions =
 graph_clause_text clause.WorldsExportedFunctions =
     codes "refers to a type that the world doesn't own, or that isn't there"
 graph_clause_text clause.WorldsOnce = codes "has no name and stands in two places of worlds"
-graph_clause_text clause.WorldsOwnImports = codes "is an unnamed interface of another package"
-graph_clause_text clause.WorldsOwnExports = codes "is an unnamed interface of another package"
+graph_clause_text clause.WorldsOwnImports =
+    codes "is an interface without a name of another package"
+graph_clause_text clause.WorldsOwnExports =
+    codes "is an interface without a name of another package"
 graph_clause_text clause.WorldsIncludes = codes "has includes"
 graph_clause_text clause.Packages = codes "depends on itself, through whatever others"
 graph_clause_text clause.Canonical = codes "isn't its own elaboration"

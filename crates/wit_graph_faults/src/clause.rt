@@ -156,8 +156,8 @@ impl GraphClause {
             GraphClause::WorldsExportedFunctions =>
                 "refers to a type that the world doesn't own, or that isn't there",
             GraphClause::WorldsOnce => "has no name and stands in two places of worlds",
-            GraphClause::WorldsOwnImports => "is an unnamed interface of another package",
-            GraphClause::WorldsOwnExports => "is an unnamed interface of another package",
+            GraphClause::WorldsOwnImports => "is an interface without a name of another package",
+            GraphClause::WorldsOwnExports => "is an interface without a name of another package",
             GraphClause::WorldsIncludes => "has includes",
             GraphClause::Packages => "depends on itself, through whatever others",
             GraphClause::Canonical => "isn't its own elaboration",

@@ -20,7 +20,7 @@ use wit_graph_data::{Graph, ResolveResult};
 use wit_validity::canonical::is_canonical;
 use wit_validity::world_homes::is_of_package;
 
-/// The first import that is an unnamed interface of another package than the world's.
+/// The first import that is an interface without a name of another package than the world's.
 pub(crate) fn own_imports(interfaces: &[Interface], worlds: &[World]) -> Option<GraphPlace>
     ensures { FindsWithin place.Import
         (λ _ (world : World) (e : Entry). IsOfPackage interfaces.now world.package e.1)

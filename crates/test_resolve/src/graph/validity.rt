@@ -157,11 +157,11 @@ const BREACHES: [(Breach, &str); 35] = [
     ),
     (
         Breach::UnnamedOfOtherImported,
-        "import 2 of world 0 is an unnamed interface of another package",
+        "import 2 of world 0 is an interface without a name of another package",
     ),
     (
         Breach::UnnamedOfOtherExported,
-        "export 1 of world 0 is an unnamed interface of another package",
+        "export 1 of world 0 is an interface without a name of another package",
     ),
     (Breach::Includes, "world 0 has includes"),
     (Breach::KindUnknown, "type 5 is of an unknown kind"),
