@@ -3,7 +3,7 @@ use Rattle.std.specs.Prelude.{ℕ, List}
 use Rattle.wit_json.specs.declared.news.Told.{Told}
 use Rattle.wit_resolve_graph.specs.State.{State}
 use Rattle.witgraph_calls.specs.Graphs.{Applies}
-use Rattle.witgraph_calls.specs.News.{CompletesAll, Stands, told_after, told_all, told_nothing}
+use Rattle.witgraph_calls.specs.News.{CompletesAll, LeavesTold, Stands, told_all, told_nothing}
 
 -- all of a state stands when it is told, and nothing does before
 abbrev pub AllStands : Type 0
@@ -15,10 +15,9 @@ NothingStands = (old new : State) → Stands told_nothing old new
 -- what a document leaves of what was told of a state stands after it
 abbrev pub ToldStands : Type 0
 ToldStands =
-    (told : Told) (first old new : State) (input text : List ℕ)
-    (made : Applies old input new text)
-    → Stands told first old
-    → Stands (told_after made.document told) first new
+    (told left : Told) (first old new : State) (input text : List ℕ)
+    → Applies old input new text → LeavesTold input told left → Stands told first old
+    → Stands left first new
 
 -- what stands, and what is new, is the whole
 abbrev pub NewsComplete : Type 0
