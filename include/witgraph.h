@@ -40,12 +40,12 @@ enum {
   WITGRAPH_OUTPUT_TOO_SMALL = 2,
   /* The input isn't UTF-8: nothing is written, and *needed is 0. */
   WITGRAPH_INPUT_NOT_UTF8 = 3,
-  /* Memory was refused outside a command: nothing is written, and *needed is 0. (If memory is refused to a command, its
+  /* Memory ran out outside a command: nothing is written, and *needed is 0. (If memory runs out in a command, its
    * answer is `refused 28`, and the script goes on.) A graph that stays is as before. */
   WITGRAPH_NO_MEMORY = 4,
   /* No graph is open in the witgraph_graph: nothing is done or written, and *needed is 0. */
   WITGRAPH_NO_GRAPH = 5,
-  /* Only witgraph_apply returns this: memory was refused outside a command once commands were carried out. The graph is
+  /* Only witgraph_apply returns this: memory ran out outside a command after commands were carried out. The graph is
    * valid, and has what some of them did; there are no replies, and *needed is 0. */
   WITGRAPH_CUT_SHORT = 6
 };
@@ -108,11 +108,11 @@ uint32_t witgraph_explain(const uint8_t *input, size_t length, uint8_t *output, 
  * Arguments and status are as for witgraph_execute, with the document in place of the script. */
 uint32_t witgraph_json(const uint8_t *input, size_t length, uint8_t *output, size_t capacity, size_t *needed);
 
-/* A graph that stays between calls. The caller has this struct and sets it to zero before the first call, as by
+/* A graph that stays between calls. The caller owns this struct and sets it to zero before the first call, as by
  *
  *     witgraph_graph graph = {0};
  *
- * which means that no graph is open. From then on only the calls below write to it. Don't copy the struct or let it go
+ * which means that no graph is open. From then on only the calls below write to it. Don't copy or drop the struct
  * while a graph is open: witgraph_close frees what the graph takes. Below, `graph` is not null, and aligned.
  *
  * witgraph_apply, witgraph_write and witgraph_write_new leave a text with the graph, until the next of these calls.
@@ -146,34 +146,34 @@ uint32_t witgraph_apply(witgraph_graph *graph, const uint8_t *input, size_t leng
  * Status: WITGRAPH_UNDERSTOOD, WITGRAPH_NO_MEMORY or WITGRAPH_NO_GRAPH. */
 uint32_t witgraph_write(witgraph_graph *graph, size_t *needed);
 
-/* Leaves what is new of the graph as the text, for a caller who keeps what earlier texts of this call told. It is JSON as of
+/* Leaves what is new in the graph as the text, for a caller who keeps what earlier texts of this call said. It is JSON as of
  * witgraph_write, with a member "from" in front:
  *
  *     {"from": {"worlds": 3, "interfaces": 5, "types": 9, "packages": 2, "sources": 1}, "graph": .., "details": .., ..}
  *
  * Each number says at which index a list goes on: keep what stands before it, drop the rest, and put the text's things there.
- * So you get what witgraph_write tells. The first text has all, from 0. A later one has what came since, and from 0
+ * So you get what witgraph_write writes. The first text has all, from 0. A later one has what came since, and from 0
  *
- * - worlds and packages after an importize or exportize, though it be refused;
+ * - worlds and packages after an importize or exportize, even a refused one;
  * - all lists but that of files after a semver or a merge;
  * - all lists after a document with a graph of its own, and after WITGRAPH_CUT_SHORT.
  *
- * The next call doesn't tell this text again, so copy it before another call takes its place. The graph stays as it is.
+ * The next call doesn't repeat this text, so copy it before another call takes its place. The graph stays as it is.
  *
  * needed  as for witgraph_apply.
  *
- * Status: WITGRAPH_UNDERSTOOD; WITGRAPH_NO_MEMORY, and then the next call tells it; WITGRAPH_NO_GRAPH. */
+ * Status: WITGRAPH_UNDERSTOOD; WITGRAPH_NO_MEMORY, and then the next call has it; WITGRAPH_NO_GRAPH. */
 uint32_t witgraph_write_new(witgraph_graph *graph, size_t *needed);
 
-/* Copies the text that the last of these three calls left. It is empty if none was called, or the last one left none. It may
- * be copied again.
+/* Copies the text that the last of these three calls left. It is empty if none was called, or if the last call left none. It
+ * may be copied again.
  *
  * output, capacity, needed  as for witgraph_execute.
  *
  * Status: WITGRAPH_UNDERSTOOD, WITGRAPH_OUTPUT_TOO_SMALL or WITGRAPH_NO_GRAPH. */
 uint32_t witgraph_reply(witgraph_graph *graph, uint8_t *output, size_t capacity, size_t *needed);
 
-/* Closes the graph, and frees what it takes. The struct then has no open graph, and may be let go or opened again.
+/* Closes the graph, and frees what it takes. The struct then has no open graph: drop it or open it again.
  *
  * Status: WITGRAPH_UNDERSTOOD; WITGRAPH_NO_GRAPH if none was open. */
 uint32_t witgraph_close(witgraph_graph *graph);
