@@ -4,9 +4,9 @@
     check/wit_groups.py [--many N] [--first N] [--out FOLDER] [FILE..]
 
 `tools/plain_rust` makes Rust of `wit_groups`, and cargo a program of it in FOLDER, which prints groups as JSON. The files are
-FILEs or those of examples/, texts of WIT by check/wit_writer.py, the same and those of examples/ changed in a few places, and
-folders of files. Of each group all is compared: each member of the JSON, or the fault with its words and its bytes. A
-difference is printed, and the status is 1 then.
+FILEs; or those of examples/, the texts of tools/test_wit.py, each of which has a fault, texts of WIT by check/wit_writer.py,
+the same and those of examples/ changed in a few places, and folders of files. Of each group all is compared: each member of
+the JSON, or the fault with its words and its bytes. A difference is printed, and the status is 1 then.
 """
 import argparse
 import collections
@@ -20,6 +20,7 @@ import tempfile
 TOP = pathlib.Path(__file__).resolve().parent.parent
 sys.path[:0] = [str(TOP / "tools"), str(TOP / "check")]
 
+import test_wit  # noqa: E402
 import wit  # noqa: E402
 import wit2json  # noqa: E402
 import wit_tokens  # noqa: E402
@@ -75,6 +76,8 @@ def groups(asked):
         yield f"{path}", {"p.wit": text}
     for folder in sorted({it.parent for it in paths}):
         yield f"{folder}", {it.name: text for it, text in zip(paths, known) if it.parent == folder}
+    for name, cases in test_wit.CASES.items():
+        yield from ((name, {"p.wit": f"package a:b;\n{text}"}) for text, _, _ in cases)
     for n in range(asked.first, asked.first + asked.many):
         yield f"written {n}", {"p.wit": wit_writer.written(n)}
         yield f"gentle {n}", {"p.wit": wit_writer.gentle(n)}

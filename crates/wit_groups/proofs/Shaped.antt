@@ -1,6 +1,8 @@
 -- The steps of the search for the first package that lacks its shape.
-use Rattle.std.proofs.Common.{◌≡◌, ◌+◌, ℕ, List, Option, None, Some, slice_get, is_some, ap}
-use Rattle.std.specs.Prelude.{◌↔◌, IsNone}
+use Rattle.std.proofs.Common.{◌≡◌, ◌+◌, ℕ, List, Option, None, Some, Result, slice_get, is_some, ap}
+use Rattle.std.proofs.lemmas.Result.{IfOk-weaker}
+use Rattle.std.specs.Prelude.{◌↔◌, IfOk, IsNone}
+use Rattle.wit_data.specs.Each.{Each}
 use Rattle.wit_data.specs.Shape.{IsShaped}
 use Rattle.wit_data.specs.declared.unresolved.UnresolvedPackage.{UnresolvedPackage}
 use Rattle.wit_data.specs.facts.EachFacts.{EachBelow, one_more}
@@ -13,3 +15,9 @@ is_none {A} {found} is = ap is_some is
 pub one_package : (packages : List UnresolvedPackage) (i : ℕ) (p : UnresolvedPackage) {found : Option ShapeFault} → EachBelow i (λ _. IsShaped) packages
     → slice_get packages i ≡ Some p → IsNone found ↔ IsShaped p → found ≡ None → EachBelow (i + 1) (λ _. IsShaped) packages
 one_package packages i p below at none is = one_more below p at (none.0 (is_none is))
+
+-- the main package has its shape, and the nested ones if none lacks it
+pub main_and_nested : (main : UnresolvedPackage) (nested : List UnresolvedPackage) {A E : Type 0} (rest : Result (Option A) E) {found : Option ShapeFault}
+    → IsNone found ↔ IsShaped main → found ≡ None → IfOk rest (λ more. IsNone more → Each IsShaped nested)
+    → IfOk rest (λ more. IsNone more → (IsShaped main) × (Each IsShaped nested))
+main_and_nested main nested rest none is each = IfOk-weaker rest _ _ (λ _ others without. (none.0 (is_none is), others without)) each

@@ -73,14 +73,14 @@ impl Directory {
     /// The interface or world of the package that has this name.
     pub fn item(&self, name: &str) -> Option<AstItem> {
         let number = self.numbers.get(name)?;
-        self.item_at(*number)
+        self.item_at(*number).copied()
     }
 
     /// The interface or world of a number, None where it isn't begun.
-    pub fn item_at(&self, number: usize) -> Option<AstItem> {
+    pub fn item_at(&self, number: usize) -> Option<&AstItem> {
         match self.items.get(number) {
-            Some(item) => *item,
-            None => None,
+            Some(Some(item)) => Some(item),
+            _ => None,
         }
     }
 

@@ -98,7 +98,7 @@ impl Draft {
             statements: statements.as_slice(),
         };
         let context = context_of(self.allocator(), directory, scope);
-        context.make_interface(self, id, &written)
+        context.make_interface(self, *id, &written)
     }
 
     /// Makes the worlds in an order.
@@ -130,7 +130,7 @@ impl Draft {
         };
         let context = context_of(self.allocator(), directory, scope);
         let gate = &scope.item.gate;
-        context.make_world(self, id, gate, &scope.name, statements.as_slice())
+        context.make_world(self, *id, gate, &scope.name, statements.as_slice())
     }
 }
 
