@@ -36,7 +36,7 @@ begins_invalid parts why (Ok state) is reads = absurd (never reads)
   where
     never : Err (invalid_fault why) ≡ Ok state → ⊥
     never same = cc
-begins_invalid parts why (Err (error.Fault fault)) is reads = (why, is, told (Err (invalid_fault why)) refl reads)
+begins_invalid parts why (Err (error.Fault fault)) is reads = (why, (is, told (Err (invalid_fault why)) refl reads))
   where
     told : (read : Reading State) → read ≡ Err (invalid_fault why) → read ≡ Err fault → fault ≡ invalid_fault why
     told read known answered = cc
