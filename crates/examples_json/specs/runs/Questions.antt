@@ -177,7 +177,8 @@ pub record ExamplesOfCoreNames : Type 0 where
       ≡ exported (codes "run") ∷ []
   pub standard : core_exports asked_graph (mangling_and_abi asked.Standard32) w_of_bar.exports
       ≡ exported (codes "cm32p2||run") ∷ []
-  pub lifted : core_exports asked_graph (mangling_and_abi asked.LegacyAsyncCallback) w_of_bar.exports
+  pub lifted : core_exports asked_graph (mangling_and_abi asked.LegacyAsyncCallback)
+      w_of_bar.exports
       ≡ exported (codes "[async-lift]run") ∷ []
   pub not_stackful : core_exports asked_graph (mangling_and_abi asked.LegacyAsyncStackful)
       w_of_bar.exports ≢ exported (codes "[async-lift]run") ∷ []

@@ -94,8 +94,10 @@ pub record ExamplesOfReadQuestions : Type 0 where
       ++ codes "\"world\":\"w\",\"mangling\":\"legacy-sync\"}}")
       ≡ Ok (question.CoreNames (foo_bar None) (codes "w") LegacySync)
   pub standard : read_from read_mangling (codes "\"standard32\"") ≡ Ok Standard32
-  pub callback : read_from read_mangling (codes "\"legacy-async-callback\"") ≡ Ok LegacyAsyncCallback
-  pub stackful : read_from read_mangling (codes "\"legacy-async-stackful\"") ≡ Ok LegacyAsyncStackful
+  pub callback : read_from read_mangling (codes "\"legacy-async-callback\"")
+      ≡ Ok LegacyAsyncCallback
+  pub stackful : read_from read_mangling (codes "\"legacy-async-stackful\"")
+      ≡ Ok LegacyAsyncStackful
   pub no_mangling : read_from read_mangling (codes "\"legacy\"") ≡ instead_of expected.Mangling
   pub imported : read_question
       (codes "{\"futures-and-streams\":{\"import\":{\"package\":\"foo:bar\","
@@ -123,7 +125,8 @@ pub record ExamplesOfReadQuestions : Type 0 where
   pub lenient : read_from read_document
       (codes "{\"lenient\":true,\"resolve\":{\"new\":1,\"graph\":"
       ++ codes "{\"new\":[],\"worlds\":1}},\"commands\":[]}")
-      ≡ fault_at (to (codes "worlds") ∷ to (codes "graph") ∷ to (codes "resolve") ∷ []) expected.List
+      ≡ fault_at (to (codes "worlds") ∷ to (codes "graph") ∷ to (codes "resolve") ∷ [])
+      expected.List
   pub not_lenient : read_from read_document
       (codes "{\"lenient\":false,\"resolve\":{\"new\":1,\"graph\":"
       ++ codes "{\"new\":[],\"worlds\":1}},\"commands\":[]}")
