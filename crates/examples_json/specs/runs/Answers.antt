@@ -237,7 +237,8 @@ pub record ExamplesOfDocuments : Type 0 where
   pub invalid : compact (json_of_fault (invalid_fault a_graph_fault) a_place)
       ≡ codes "{\"fault\":{\"path\":[\"resolve\",\"graph\",\"worlds\",2,\"imports\"],"
       ++ (codes "\"offset\":29,\"line\":1,\"column\":30,\"expected\":\"a valid graph\","
-      ++ codes "\"clause\":\"worlds.imports\",\"message\":\"import 0 of world 2 may not stand under its key\"}}")
+      ++ (codes "\"clause\":\"worlds.imports\","
+      ++ codes "\"message\":\"import 0 of world 2 may not stand under its key\"}}"))
   pub not_the_graph : compact (json_of_fault (invalid_fault a_graph_fault) a_place)
       ≢ codes "{\"fault\":{\"path\":[\"resolve\",\"graph\"],\"offset\":29,\"line\":1,\"column\":30,"
       ++ codes "\"expected\":\"a valid graph\"}}"

@@ -23,7 +23,8 @@ pub record ExamplesOfNews : Type 0 where
       ++ codes "\"functions\":{},\"package\":null}],\"types\":[],\"packages\":[]},"
       ++ codes "\"details\":{\"worlds\":[],\"interfaces\":[{\"functions\":{}}],\"types\":[]},"
       ++ codes "\"features\":{\"all\":false,\"names\":[\"fast\",\"new\"]},"
-      ++ codes "\"track-rule\":\"with-prereleases\",\"sources\":[{\"path\":\"b.wit\",\"text\":\"\"}]}"
+      ++ codes "\"track-rule\":\"with-prereleases\","
+      ++ codes "\"sources\":[{\"path\":\"b.wit\",\"text\":\"\"}]}"
   -- what was told isn't told again, and the features are
   pub not_all_files : compact
       (json_of_news told_more small_graph two_features WithPrereleases two_files)
@@ -31,7 +32,8 @@ pub record ExamplesOfNews : Type 0 where
       ++ codes "\"graph\":{\"worlds\":[],\"interfaces\":[],\"types\":[],\"packages\":[]},"
       ++ codes "\"details\":{\"worlds\":[],\"interfaces\":[],\"types\":[]},"
       ++ codes "\"features\":{\"all\":false,\"names\":[\"fast\",\"new\"]},"
-      ++ codes "\"track-rule\":\"with-prereleases\",\"sources\":[{\"path\":\"b.wit\",\"text\":\"\"}]}"
+      ++ codes "\"track-rule\":\"with-prereleases\","
+      ++ codes "\"sources\":[{\"path\":\"b.wit\",\"text\":\"\"}]}"
   pub nothing : compact
       (json_of_news told_more small_graph two_features WithPrereleases two_files)
       ≡ codes "{\"from\":{\"worlds\":2,\"interfaces\":2,\"types\":2,\"packages\":2,\"sources\":3},"
