@@ -4,6 +4,7 @@ use Rattle.std.specs.List.{flat_map}
 use Rattle.std.specs.Option.{option_map_or}
 use Rattle.wit_data.specs.Entries.{Entry}
 use Rattle.wit_data.specs.declared.world.World.{World}
+use Rattle.wit_data.specs.declared.world.WorldItem.TheVariants as item
 use Rattle.wit_data.specs.declared.world.WorldKey.TheVariants as key
 use Rattle.wit_digraph.specs.PostOrder.{first_of_each}
 use Rattle.wit_graph_data.specs.declared.graph.Package.{Package}
@@ -17,7 +18,6 @@ use Rattle.witgraph_dot.specs.declared.arrow.ArrowKind.{ArrowKind}
 use Rattle.witgraph_dot.specs.declared.arrow.ArrowKind.TheVariants as kind
 use Rattle.witgraph_dot.specs.declared.arrow.Target.{Target}
 use Rattle.witgraph_dot.specs.declared.arrow.Target.TheVariants as target
-use Rattle.wit_data.specs.declared.unresolved.AstItem.TheVariants as item
 
 -- what an arrow of a kind looks like
 abbrev pub look : ArrowKind → List ℕ
