@@ -184,15 +184,6 @@ def compare_programs(cases, proved, builds, jobs):
         raise Fault(f"{len(found)} of {len(cases)} cases differ\n" + "\n".join(found[:SHOWN]))
 
 
-def check_wit(builds):
-    """What check/wit_program.py asks, of `wit` in each build."""
-    for build in builds:
-        words = [sys.executable, CHECK / "wit_program.py", f"{build}/wit", "--json", f"{build}/witgraph_json"]
-        done = subprocess.run(words, capture_output=True, text=True)
-        if done.returncode:
-            raise Fault(f"wit of {build}\n{tail(done.stdout)}{tail(done.stderr)}")
-
-
 # ---- all of it
 
 
@@ -221,9 +212,7 @@ def check(out, asked, options, proved):
     if has_clippy():
         cargo(out, "clippy", "--all-targets")
     cases = all_cases(asked, proved)
-    builds = [f"{out}/target/debug", f"{out}/target/release"]
-    compare_programs(cases, proved, builds, asked.jobs)
-    check_wit(builds)
+    compare_programs(cases, proved, [f"{out}/target/debug", f"{out}/target/release"], asked.jobs)
     clippy = "" if has_clippy() else " SKIPPED: no clippy."
     print(f"plain Rust: {ran} tests passed, {len(cases)} cases by both builds as by the proved programs.{clippy}")
     print(f"plain Rust: 200 packages are linked one by one in {seconds:.3f} s of the processor.")

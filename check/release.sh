@@ -37,10 +37,9 @@ there=$(ls -d "$work"/witgraph-*)
 version=$(cat VERSION)
 cd "$work"
 
-for program in wit witgraph witgraph_json witgraph_dot; do
-    crate=$top/crates/$program words=()
-    [ ! -f "$crate/args" ] || mapfile -t words < "$crate/args"
-    env -i "$there/bin/$program" "${words[@]}" < "$crate/stdin" | cmp - "$crate/stdout" || fails "$program writes something else"
+for program in witgraph witgraph_json witgraph_dot; do
+    crate=$top/crates/$program
+    env -i "$there/bin/$program" < "$crate/stdin" | cmp - "$crate/stdout" || fails "$program writes something else"
 done
 # what README.txt says of glibc
 newest() {

@@ -1,5 +1,4 @@
 //! What the programs of this crate do, and what the library for C does from bytes to bytes.
-pub use crate::made::wit::main as wit;
 pub use crate::made::witgraph::main as witgraph;
 pub use crate::made::witgraph_calls as calls;
 pub use crate::made::witgraph_dot::main as witgraph_dot;

@@ -1,7 +1,6 @@
-//! Texts, files and folders of WIT, pushed as wit-parser's users push them; and the program `wit` on the same.
+//! Texts, files and folders of WIT, pushed as wit-parser's users push them.
 use std::fs;
 use std::path::{Path, PathBuf};
-use std::process::Command;
 use wit_resolve_graph::*;
 
 const MAIN: &str = "package my:home; interface i { use my:dep/d.{t}; f: func() -> t; } world w { import i; }\n";
@@ -123,36 +122,12 @@ fn groups_are_read_alone() -> Result<(), FileError> {
     Ok(())
 }
 
-fn wit(folder: &Folder, words: &[&str]) -> (Option<i32>, String, String) {
-    let done = Command::new(env!("CARGO_BIN_EXE_wit"))
-        .args(words)
-        .current_dir(folder.path())
-        .output()
-        .expect("the program");
-    let text = |bytes| String::from_utf8(bytes).expect("a text");
-    (done.status.code(), text(done.stdout), text(done.stderr))
-}
-
 #[test]
-fn the_program_prints_imports() {
-    let folder = Folder::home("program");
-    let imports = "my:deeper/e\nmy:dep/d\nmy:home/i\n".to_owned();
-    assert_eq!(wit(&folder, &["."]), (Some(0), imports, String::new()));
-    let (status, output, errors) = wit(&folder, &["main.wit"]);
-    assert_eq!((status, output.as_str()), (Some(1), ""));
-    assert!(errors.starts_with("wit: package 'my:dep' not found. known packages:\n    my:home\n"));
-    let (status, output, errors) = wit(&folder, &["--worlds"]);
-    assert_eq!((status, output.as_str()), (Some(2), ""));
-    assert!(errors.starts_with("wit: there is no option `--worlds`\nusage: wit "));
-}
-
-#[test]
-fn the_program_writes_the_graph() {
-    let folder = Folder::home("graph");
+fn a_component_in_deps_is_refused() {
+    let folder = Folder::new("component", &[("main.wit", b"package my:home;"), ("deps/x.wasm", b""), ("deps/note.txt", b"")]);
     let mut resolve = Resolve::new();
-    let (main, _) = resolve.push_path(folder.path()).expect("a package");
-    let (_, json, _) = wit(&folder, &[".", "--json"]);
-    assert_eq!(json, resolve.graph().to_json() + "\n");
-    let (_, text, _) = wit(&folder, &[".", "--wit"]);
-    assert_eq!(text, print_graph(&resolve, main));
+    let told = resolve.push_path(folder.path()).expect_err("a component").to_string();
+    let path = folder.path().join("deps/x.wasm");
+    assert_eq!(told, format!("{}: it is no WIT text: write it as a .wit file", path.display()));
+    resolve.push_path(folder.path().join("main.wit")).expect("a package");
 }

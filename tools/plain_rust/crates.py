@@ -17,10 +17,9 @@ LIBRARIES = (
     "wit_json_commands",
     "wit_groups",
     "wit_print",
-    "wit_groups",
     "witgraph_calls",
 )
-PROGRAMS = ("wit", "witgraph", "witgraph_json", "witgraph_dot")
+PROGRAMS = ("witgraph", "witgraph_json", "witgraph_dot")
 # libraries whose `#[test]` functions `cargo test` runs
 TESTS = ("test_facades", "test_json", "test_resolve")
 # programs that `cargo test` runs on what is stored beside them

@@ -30,8 +30,7 @@ RULES = [
     # where the shim is in the place of std or of a crate of the kit
     (r"use std::\{slice, vec\};", f"use {SHIM}::vec;\nuse std::slice;"),
     (r"use std::env::\{Env, FillError\};", f"use {SHIM}::env::FillError;"),
-    (r"\buse std::\{(env|fs), io\};", rf"use {SHIM}::\1;\nuse std::io;"),
-    (r"\bstd::(alloc|collections|fs|vec|simd)\b", rf"{SHIM}::\1"),
+    (r"\bstd::(alloc|collections|vec|simd)\b", rf"{SHIM}::\1"),
     (r"(?<![:\w])(indexmap|semver|json)::", rf"{SHIM}::\1::"),
     # forms that Rust writes otherwise
     (r"<W: fmt::Write>\((&self, )?f: &mut fmt::Formatter<W>", r"(\1f: &mut fmt::Formatter<'_>"),
@@ -48,7 +47,6 @@ RULES = [
     (r"\bio::read_to_string\(rt\.reader\(\)\)", f"{SHIM}::streams::read_to_string()"),
     (r"\brt\.reader\(\)", f"{SHIM}::streams::reader()"),
     (r"\bio::writer\(\)", f"{SHIM}::streams::writer()"),
-    (r"\brt\.stderr\(\)", f"{SHIM}::streams::error_writer()"),
     (r"\brt\.arg\(", f"{SHIM}::env::arg("),
     (r"\b(print|println|eprintln)!\(", r"try_\1!("),
     # a pair of which the allocator is gone

@@ -1,8 +1,7 @@
 //! Files and folders of WIT, as wit-parser pushes them.
 
+use super::paths::{is_folder, read_deps, read_file, read_folder, text_of};
 use super::resolve::answered;
-use crate::made::wit::fault::PathFault;
-use crate::made::wit::files::{is_folder, read_deps, read_file, read_folder};
 use crate::made::wit_data::{MapFault, PackageId, SourceMap, UnresolvedPackageGroup};
 use crate::made::wit_graph_data::ResolveError;
 use crate::made::wit_groups::{GroupFault, read_group};
@@ -14,7 +13,7 @@ use std::path::Path;
 
 /// Why files aren't read or pushed.
 ///
-/// It is shown as the program `wit` tells it: what isn't WIT, and a refusal, with FILE:LINE:COLUMN and the line.
+/// What isn't WIT, and a refusal, are shown with FILE:LINE:COLUMN and the line.
 #[derive(Debug)]
 pub struct FileError {
     text: String,
@@ -31,6 +30,11 @@ impl FileError {
         let (text, refusal) = (text.to_string(), None);
         FileError { text, refusal }
     }
+
+    /// What is wrong with a path.
+    pub(super) fn at(path: &Path, what: impl fmt::Display) -> FileError {
+        FileError::of(format_args!("{}: {what}", path.display()))
+    }
 }
 
 impl fmt::Display for FileError {
@@ -40,12 +44,6 @@ impl fmt::Display for FileError {
 }
 
 impl Error for FileError {}
-
-impl From<PathFault> for FileError {
-    fn from(fault: PathFault) -> FileError {
-        FileError::of(fault)
-    }
-}
 
 impl From<MapFault> for FileError {
     fn from(fault: MapFault) -> FileError {
@@ -85,10 +83,6 @@ impl PackageSources {
     }
 }
 
-fn text_of(path: &Path) -> Result<&str, FileError> {
-    path.to_str().ok_or_else(|| FileError::of(format_args!("{}: its name isn't UTF-8", path.display())))
-}
-
 impl UnresolvedPackageGroup {
     /// The packages of a text of WIT, with the name that its file has in messages.
     pub fn parse(path: impl AsRef<Path>, contents: &str) -> Result<UnresolvedPackageGroup, FileError> {
@@ -99,17 +93,16 @@ impl UnresolvedPackageGroup {
 
     /// The packages of the files right in a folder that end with `.wit`.
     pub fn parse_dir(path: impl AsRef<Path>) -> Result<UnresolvedPackageGroup, FileError> {
-        Ok(read_group(read_folder(text_of(path.as_ref())?)?)?)
+        Ok(read_group(read_folder(path.as_ref())?)?)
     }
 
     fn parse_file(path: &Path) -> Result<UnresolvedPackageGroup, FileError> {
-        Ok(read_group(read_file(text_of(path)?)?)?)
+        Ok(read_group(read_file(path)?)?)
     }
 
     /// The packages of each thing in the folder `deps` of a folder.
     fn parse_deps(path: &Path) -> Result<Vec<UnresolvedPackageGroup>, FileError> {
-        let maps = read_deps(text_of(path)?)?.into_vec();
-        maps.into_iter().map(|map| Ok(read_group(map)?)).collect()
+        read_deps(path)?.into_iter().map(|map| Ok(read_group(map)?)).collect()
     }
 }
 
@@ -138,7 +131,7 @@ impl Resolve {
     /// Adds what a path has: a folder as [`push_dir`](Resolve::push_dir), all else as [`push_file`](Resolve::push_file).
     pub fn push_path(&mut self, path: impl AsRef<Path>) -> Result<(PackageId, PackageSources), FileError> {
         let path = path.as_ref();
-        if is_folder(text_of(path)?)? {
+        if is_folder(path)? {
             return self.push_dir(path);
         }
         self.push_with_sources(UnresolvedPackageGroup::parse_file(path)?, Vec::new())

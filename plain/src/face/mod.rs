@@ -6,6 +6,7 @@ mod files;
 #[cfg(feature = "serde")]
 mod hand_on;
 pub mod json;
+mod paths;
 mod printing;
 mod questions;
 mod resolve;

@@ -14,7 +14,6 @@ pub mod alloc;
 mod boxed;
 pub mod collections;
 pub mod env;
-pub mod fs;
 pub mod indexmap;
 pub mod json;
 mod macros;

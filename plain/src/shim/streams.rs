@@ -9,9 +9,9 @@ pub fn read_to_string() -> io::Result<String> {
 }
 
 #[cfg(not(test))]
-pub use self::standard::{error_writer, reader, writer};
+pub use self::standard::{reader, writer};
 #[cfg(test)]
-pub use self::stored::{error_writer, reader, run_on, writer};
+pub use self::stored::{reader, run_on, writer};
 
 #[cfg(not(test))]
 mod standard {
@@ -23,10 +23,6 @@ mod standard {
 
     pub fn writer() -> io::StdoutLock<'static> {
         io::stdout().lock()
-    }
-
-    pub fn error_writer() -> io::Stderr {
-        io::stderr()
     }
 }
 
@@ -54,10 +50,6 @@ mod stored {
 
     pub fn writer() -> Writer {
         Writer
-    }
-
-    pub fn error_writer() -> io::Stderr {
-        io::stderr()
     }
 
     /// Appends to the output of the thread.

@@ -3,13 +3,11 @@
 //! `serde_json` doesn't serve here: what is told of a faulty document needs the place of any token, the text of a number of
 //! any size, and members in their order with those that stand twice.
 mod lexer;
-mod pretty;
 mod reader;
 mod unescape;
 mod value;
 mod writer;
 
-pub use self::pretty::Pretty;
 pub use self::reader::{Reader, Scratch, Token};
 pub use self::value::Value;
 pub use self::writer::Writer;

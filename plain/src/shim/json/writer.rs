@@ -63,23 +63,6 @@ impl Writer {
         self.word(b"null")
     }
 
-    /// A number, by its text.
-    pub(super) fn number(&mut self, text: &str) -> Result<(), AllocError> {
-        self.word(text.as_bytes())
-    }
-
-    /// The comma before a token, where one is wanted; none comes behind it then.
-    pub(super) fn separate_token(&mut self) -> Result<(), AllocError> {
-        self.separate()?;
-        self.after_value = false;
-        Ok(())
-    }
-
-    /// White space.
-    pub(super) fn blank(&mut self, text: &[u8]) -> Result<(), AllocError> {
-        self.out.extend_from_slice(text)
-    }
-
     /// The comma between two values.
     fn separate(&mut self) -> Result<(), AllocError> {
         if self.after_value { self.out.extend_from_slice(b",") } else { Ok(()) }

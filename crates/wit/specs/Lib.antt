@@ -1,5 +1,0 @@
-pub mod Answer
-pub mod CoreNames
-pub mod Pretty
-pub mod Tasks
-pub mod steps

@@ -1,6 +1,0 @@
-pub mod Arguments
-pub mod Outcome
-pub mod Turns
-pub mod UsageText
-pub mod Words
-pub mod steps
