@@ -13,6 +13,7 @@ use Rattle.wit_sources.specs.declared.source_map.SourceFile.{SourceFile}
 use Rattle.wit_ways.specs.Ways.{way_names}
 use Rattle.wit_ways.specs.declared.arrow.Arrow.{Arrow}
 use Rattle.wit_json_commands.specs.FilePlaces.{file_place}
+use Rattle.wit_json_commands.specs.Nearest.{nearest_known}
 use Rattle.wit_json_commands.specs.Places.{first_known, package_span}
 use Rattle.wit_json_commands.specs.declared.replies.answers.Answer.{Answer}
 use Rattle.wit_json_commands.specs.declared.replies.answers.Answer.TheVariants as answer
@@ -74,5 +75,6 @@ refused g files asked way error =
       error = error;
       places = filter_map (file_place files.files) (error_spans g error);
       way = map (way_step files.files) way;
+      nearest = nearest_known error;
       rendered = rendered g files asked way error;
     })

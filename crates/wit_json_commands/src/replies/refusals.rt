@@ -6,6 +6,7 @@ ghost use Rattle.wit_json_commands.specs.Refusals.{error_spans, refused, way_ste
 
 use super::answers::{Answer, Refusal};
 use super::file_places::{FilePlace, file_place};
+use super::nearest::nearest_known;
 use super::places::package_span;
 use super::rendered::text_of_error;
 use std::alloc::{AllocError, Global};
@@ -38,10 +39,15 @@ pub fn refused(
     let rendered = text_of_error(alloc, files, &spans, asked, way, &error)?;
     let places = file_places(alloc, files, &spans)?;
     let way = way_steps(alloc, files, way)?;
+    let nearest = match nearest_known(alloc, error.kind())? {
+        Some(name) => Some(name.try_clone()?),
+        None => None,
+    };
     Ok(Answer::Refused(Refusal {
         error,
         places,
         way,
+        nearest,
         rendered,
     }))
 }
