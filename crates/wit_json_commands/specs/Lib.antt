@@ -5,6 +5,7 @@ pub mod CoreNames
 pub mod CoreNamesJson
 pub mod Documents
 pub mod FilePlaces
+pub mod Mismatches
 pub mod Nearest
 pub mod Orders
 pub mod Output

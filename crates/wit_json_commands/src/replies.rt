@@ -5,6 +5,7 @@ mod core_names;
 mod documents;
 mod error_fields;
 mod file_places;
+mod mismatches;
 mod nearest;
 mod places;
 mod refusals;
