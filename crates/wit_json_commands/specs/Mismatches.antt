@@ -1,5 +1,5 @@
 -- Where the things of a graph stand that a message of 24 or 25 names.
-use Rattle.std.specs.Prelude.{ℕ, ◌||◌, Bool, true, false, List, [], ◌∷◌, ◌++◌, codes, drop, length, map, nat_eq, slice_get, Option, Some, None, option_and_then, option_map, is_some, if◌then◌else◌}
+use Rattle.std.specs.Prelude.{ℕ, ◌||◌, Bool, true, false, List, [], ◌∷◌, codes, drop, length, map, nat_eq, slice_get, Option, Some, None, option_and_then, option_map, is_some, if◌then◌else◌}
 use Rattle.std.specs.List.{starts_with}
 use Rattle.wit_data.specs.declared.function.Function.{Function}
 use Rattle.wit_data.specs.declared.interface.Interface.{Interface}
@@ -47,8 +47,8 @@ type_place g text t =
 -- where an interface has the function or the type that a text names, or else where it stands itself
 abbrev pub item_place : Graph → List ℕ → Interface → OptionalSpan
 item_place g text interface =
-    first_known (map (function_place text) interface.functions
-    ++ (map (type_place g text) interface.types ++ interface.span ∷ []))
+    first_known (first_known (map (function_place text) interface.functions)
+    ∷ first_known (map (type_place g text) interface.types) ∷ interface.span ∷ [])
 
 -- ---- 24
 
@@ -67,8 +67,8 @@ place_in_world g text e =
 abbrev pub place_in_package : Graph → List ℕ → Package → OptionalSpan
 place_in_package g message home =
     option_and_then (λ rest.
-    first_known (map (place_in_interface g rest) home.interfaces
-    ++ map (place_in_world g rest) home.worlds))
+    first_known (first_known (map (place_in_interface g rest) home.interfaces)
+    ∷ first_known (map (place_in_world g rest) home.worlds) ∷ []))
     (behind_name (codes "failed to merge package `") (package_name_text home.name)
     (codes "` into existing copy: ") message)
 

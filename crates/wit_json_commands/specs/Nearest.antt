@@ -1,5 +1,5 @@
 -- The known package whose name is nearest to one that isn't known.
-use Rattle.std.specs.Prelude.{ℕ, ◌/◌, ◌||◌, ◌&&◌, not, Bool, List, ◌∷◌, ◌++◌, length, Option, Some, None, fold, if◌then◌else◌, nat_eq, nat_lt}
+use Rattle.std.specs.Prelude.{ℕ, ◌/◌, ◌||◌, ◌&&◌, Bool, List, ◌∷◌, ◌++◌, length, Option, Some, None, fold, if◌then◌else◌, nat_eq, nat_le, nat_lt}
 use Rattle.std.specs.Str.{chars}
 use Rattle.strsim.specs.Edits.{levenshtein_row}
 use Rattle.wit_graph_data.specs.declared.error_kind.ResolveErrorKind.{ResolveErrorKind}
@@ -29,7 +29,7 @@ is_less a b = nat_lt a.0 b.0 || (nat_eq a.0 b.0 && nat_lt a.1 b.1)
 -- a name is near: without the versions, at most a third of the characters of what is requested is edited
 abbrev pub is_near : PackageName → PackageName → Bool
 is_near requested name =
-    not (nat_lt (length (chars (short_text requested)) / 3) (distance requested name).0)
+    nat_le (distance requested name).0 (length (chars (short_text requested)) / 3)
 
 -- the nearest name so far, after one more: the first at the least distance
 abbrev pub nearer : PackageName → Option PackageName → PackageName → Option PackageName

@@ -187,7 +187,10 @@ pub fn merge_place(alloc: Global, graph: &Graph, message: &str) -> Result<Span, 
 fn id_of(alloc: Global, graph: &Graph, interface: &Interface) -> Result<Option<String>, AllocError>
     ensures { IfOk result (λ text. option_map string_bytes text ≡ id_of graph.now interface.now) }
 {
-    let (Some(name), Some(owner)) = (&interface.name, interface.package) else {
+    let Some(name) = &interface.name else {
+        return Ok(None);
+    };
+    let Some(owner) = interface.package else {
         return Ok(None);
     };
     match graph.id_of_name(alloc, owner, name.as_str()) {

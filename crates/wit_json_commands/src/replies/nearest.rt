@@ -1,6 +1,7 @@
 //! The known package whose name is nearest to one that isn't known.
 ghost use Rattle.std.specs.Option.{option_copied};
-ghost use Rattle.std.specs.Prelude.{◌≡◌, IfOk, string_bytes};
+ghost use Rattle.std.specs.Prelude.{◌≡◌, IfOk, length, string_bytes};
+ghost use Rattle.std.specs.Str.{chars};
 ghost use Rattle.wit_json_commands.specs.Nearest.{distance, is_less, is_near, nearer, nearest, nearest_known, short_text};
 
 use std::alloc::{AllocError, Global};
@@ -75,7 +76,14 @@ fn is_near(alloc: Global, requested: &PackageName, name: &PackageName) -> Result
 {
     let (from, into) = (short_text(alloc, requested)?, short_text(alloc, name)?);
     let found = levenshtein(alloc, &from, &into)?;
-    Ok(found <= from.chars().count() / 3)
+    Ok(found <= character_count(&from) / 3)
+}
+
+/// How many characters a text has.
+fn character_count(text: &str) -> usize
+    ensures { result ≡ length (chars text.now) }
+{
+    text.chars().count()
 }
 
 /// Whether a name is nearer than a former one.
