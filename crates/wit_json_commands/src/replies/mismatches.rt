@@ -6,7 +6,7 @@ ghost use Rattle.wit_json_commands.specs.Places.{first_known};
 
 use super::places::world_span;
 use std::alloc::{AllocError, Global};
-use wit_data::{Function, Interface, InterfaceId, Names, Span, Text, TypeId, WorldId};
+use wit_data::{Function, Interface, InterfaceId, Names, Span, TypeId, WorldId};
 use wit_graph_data::{Graph, Package};
 
 /// What follows in a text that begins with a name between a front and an end.
@@ -19,14 +19,14 @@ fn behind_name<'a>(text: &'a [u8], front: &str, name: &str, end: &str) -> Option
 }
 
 /// Whether a text begins with a name between a front and an end.
-fn names(text: &[u8], front: &str, name: &Text, end: &str) -> bool
+fn names(text: &[u8], front: &str, name: &str, end: &str) -> bool
     ensures { result ≡ names front.now name.now end.now text.now }
 {
-    behind_name(text, front, name.as_str(), end).is_some()
+    behind_name(text, front, name, end).is_some()
 }
 
 /// Where a function stands, if a text names it.
-fn function_place(text: &[u8], name: &Text, function: &Function) -> Span
+fn function_place(text: &[u8], name: &str, function: &Function) -> Span
     ensures { result ≡ function_place text.now (name.now, function.now) }
 {
     if names(text, "mismatch in function `", name, "`: ")
@@ -44,7 +44,7 @@ fn function_place(text: &[u8], name: &Text, function: &Function) -> Span
 }
 
 /// Where a type stands, if a text names it.
-fn type_place(graph: &Graph, text: &[u8], name: &Text, id: TypeId) -> Span
+fn type_place(graph: &Graph, text: &[u8], name: &str, id: TypeId) -> Span
     ensures { result ≡ type_place graph.now text.now (name.now, id) }
 {
     if !names(text, "mismatch in type `", name, "`")
@@ -97,10 +97,10 @@ fn item_place(graph: &Graph, text: &[u8], interface: &Interface) -> Span
 }
 
 /// Where an interface of a package has what a text names, if the text names it.
-fn place_in_interface(graph: &Graph, text: &[u8], name: &Text, id: InterfaceId) -> Span
+fn place_in_interface(graph: &Graph, text: &[u8], name: &str, id: InterfaceId) -> Span
     ensures { result ≡ place_in_interface graph.now text.now (name.now, id) }
 {
-    let Some(rest) = behind_name(text, "failed to merge interface `", name.as_str(), "`: ") else {
+    let Some(rest) = behind_name(text, "failed to merge interface `", name, "`: ") else {
         return Span::unknown();
     };
     match graph.interfaces.get(id.index()) {
@@ -110,10 +110,10 @@ fn place_in_interface(graph: &Graph, text: &[u8], name: &Text, id: InterfaceId) 
 }
 
 /// Where a world of a package stands, if a text names it.
-fn place_in_world(graph: &Graph, text: &[u8], name: &Text, id: WorldId) -> Span
+fn place_in_world(graph: &Graph, text: &[u8], name: &str, id: WorldId) -> Span
     ensures { result ≡ place_in_world graph.now text.now (name.now, id) }
 {
-    match behind_name(text, "failed to merge world `", name.as_str(), "`: ") {
+    match behind_name(text, "failed to merge world `", name, "`: ") {
         Some(_) => world_span(graph, id),
         None => Span::unknown(),
     }
