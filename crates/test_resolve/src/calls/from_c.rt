@@ -121,7 +121,7 @@ const DOCUMENTS: [(&[u8], &str); 8] = [
     (
         b"{\"commands\":[],\"resolve\":{\"graph\":{\"worlds\":[],\"interfaces\":[{\"name\":null,\"types\":{},\"functions\":{},\"package\":0}],\
         \"types\":[],\"packages\":[]}}}",
-        "1 220 {\"fault\":{\"path\":[\"resolve\",\"graph\",\"interfaces\",0],\"offset\":61,\"expected\":\"a valid graph\",\
+        "1 241 {\"fault\":{\"path\":[\"resolve\",\"graph\",\"interfaces\",0],\"offset\":61,\"line\":1,\"column\":62,\"expected\":\"a valid graph\",\
         \"clause\":\"tables.interfaces_listed\",\"message\":\"interface 0 has no package, or isn't in the table of its package under its name\"}}",
     ),
     (b"", WITH_ALL_FEATURES),
@@ -181,7 +181,7 @@ const WITH_A_PACKAGE: &str =
     \"track-rule\":\"published\",\"sources\":[]}";
 
 const WITHOUT_IT: &str =
-    "0 262 {\"from\":{\"worlds\":0,\"interfaces\":0,\"types\":0,\"packages\":1,\"sources\":0},\
+    "0 259 {\"from\":{\"worlds\":0,\"interfaces\":0,\"types\":0,\"packages\":1,\"sources\":0},\
     \"graph\":{\"worlds\":[],\"interfaces\":[],\"types\":[],\"packages\":[]},\
     \"details\":{\"worlds\":[],\"interfaces\":[],\"types\":[]},\"features\":{\"all\":false,\"names\":[]},\
     \"track-rule\":\"published\",\"sources\":[]}";
