@@ -18,13 +18,13 @@ abbrev pub behind : List ℕ → List ℕ → Option (List ℕ)
 behind front text = if starts_with nat_eq text front then Some (drop (length front) text) else None
 
 -- what follows in a text that begins with a name between a front and an end
-abbrev pub behind_name : List ℕ → List ℕ → List ℕ → List ℕ → Option (List ℕ)
-behind_name front name end text =
+abbrev pub rest_behind : List ℕ → List ℕ → List ℕ → List ℕ → Option (List ℕ)
+rest_behind front name end text =
     option_and_then (behind end) (option_and_then (behind name) (behind front text))
 
 -- a text begins with a name between a front and an end
 abbrev pub names : List ℕ → List ℕ → List ℕ → List ℕ → Bool
-names front name end text = is_some (behind_name front name end text)
+names front name end text = is_some (rest_behind front name end text)
 
 -- ---- functions and types
 
@@ -56,12 +56,12 @@ item_place g text interface =
 abbrev pub place_in_interface : Graph → List ℕ → List ℕ × ℕ → OptionalSpan
 place_in_interface g text e =
     option_and_then (λ rest. option_and_then (item_place g rest) (slice_get g.interfaces e.1))
-    (behind_name (codes "failed to merge interface `") e.0 (codes "`: ") text)
+    (rest_behind (codes "failed to merge interface `") e.0 (codes "`: ") text)
 
 abbrev pub place_in_world : Graph → List ℕ → List ℕ × ℕ → OptionalSpan
 place_in_world g text e =
     option_and_then (λ rest. world_span g e.1)
-    (behind_name (codes "failed to merge world `") e.0 (codes "`: ") text)
+    (rest_behind (codes "failed to merge world `") e.0 (codes "`: ") text)
 
 -- where a package has what a message names, if the message names the package
 abbrev pub place_in_package : Graph → List ℕ → Package → OptionalSpan
@@ -69,7 +69,7 @@ place_in_package g message home =
     option_and_then (λ rest.
     first_known (first_known (map (place_in_interface g rest) home.interfaces)
     ∷ first_known (map (place_in_world g rest) home.worlds) ∷ []))
-    (behind_name (codes "failed to merge package `") (package_name_text home.name)
+    (rest_behind (codes "failed to merge package `") (package_name_text home.name)
     (codes "` into existing copy: ") message)
 
 -- where the graph has what a merge refuses
@@ -88,7 +88,7 @@ id_of g interface =
 abbrev pub newer_place : Graph → Bool → Interface → List ℕ → Interface → OptionalSpan
 newer_place g newer old text new =
     option_and_then (λ id. option_and_then (λ rest. item_place g rest (if newer then new else old))
-    (behind_name [] id
+    (rest_behind [] id
     (codes "`, was this semver-compatible update not semver compatible?: ") text))
     (id_of g new)
 
@@ -100,7 +100,7 @@ place_by_newer g newer old text = first_known (map (newer_place g newer old text
 abbrev pub older_place : Graph → Bool → List ℕ → Interface → OptionalSpan
 older_place g newer message old =
     option_and_then (λ id. option_and_then (place_by_newer g newer old)
-    (behind_name (codes "failed to upgrade `") id (codes "` to `") message))
+    (rest_behind (codes "failed to upgrade `") id (codes "` to `") message))
     (id_of g old)
 
 -- where the graph has what an upgrade refuses, in the older interface or the newer one

@@ -1,7 +1,7 @@
 //! Where the things of a graph stand that a message of 24 or 25 names.
 ghost use Rattle.std.specs.Option.{option_copied};
 ghost use Rattle.std.specs.Prelude.{◌≡◌, IfOk, map, option_map, string_bytes};
-ghost use Rattle.wit_json_commands.specs.Mismatches.{behind_name, function_place, id_of, item_place, merge_place, names, newer_place, older_place, place_by_newer, place_in_interface, place_in_package, place_in_world, type_place, upgrade_place};
+ghost use Rattle.wit_json_commands.specs.Mismatches.{rest_behind, function_place, id_of, item_place, merge_place, names, newer_place, older_place, place_by_newer, place_in_interface, place_in_package, place_in_world, type_place, upgrade_place};
 ghost use Rattle.wit_json_commands.specs.Places.{first_known};
 
 use super::places::world_span;
@@ -10,8 +10,8 @@ use wit_data::{Function, Interface, InterfaceId, Names, Span, TypeId, WorldId};
 use wit_graph_data::{Graph, Package};
 
 /// What follows in a text that begins with a name between a front and an end.
-fn behind_name<'a>(text: &'a [u8], front: &str, name: &str, end: &str) -> Option<&'a [u8]>
-    ensures { option_copied result ≡ behind_name front.now name.now end.now text.now }
+fn rest_behind<'a>(text: &'a [u8], front: &str, name: &str, end: &str) -> Option<&'a [u8]>
+    ensures { option_copied result ≡ rest_behind front.now name.now end.now text.now }
 {
     let named = text.strip_prefix(front.as_bytes())?;
     let rest = named.strip_prefix(name.as_bytes())?;
@@ -22,7 +22,7 @@ fn behind_name<'a>(text: &'a [u8], front: &str, name: &str, end: &str) -> Option
 fn names(text: &[u8], front: &str, name: &str, end: &str) -> bool
     ensures { result ≡ names front.now name.now end.now text.now }
 {
-    behind_name(text, front, name, end).is_some()
+    rest_behind(text, front, name, end).is_some()
 }
 
 /// Where a function stands, if a text names it.
@@ -100,7 +100,7 @@ fn item_place(graph: &Graph, text: &[u8], interface: &Interface) -> Span
 fn place_in_interface(graph: &Graph, text: &[u8], name: &str, id: InterfaceId) -> Span
     ensures { result ≡ place_in_interface graph.now text.now (name.now, id) }
 {
-    let Some(rest) = behind_name(text, "failed to merge interface `", name, "`: ") else {
+    let Some(rest) = rest_behind(text, "failed to merge interface `", name, "`: ") else {
         return Span::unknown();
     };
     match graph.interfaces.get(id.index()) {
@@ -113,7 +113,7 @@ fn place_in_interface(graph: &Graph, text: &[u8], name: &str, id: InterfaceId) -
 fn place_in_world(graph: &Graph, text: &[u8], name: &str, id: WorldId) -> Span
     ensures { result ≡ place_in_world graph.now text.now (name.now, id) }
 {
-    match behind_name(text, "failed to merge world `", name, "`: ") {
+    match rest_behind(text, "failed to merge world `", name, "`: ") {
         Some(_) => world_span(graph, id),
         None => Span::unknown(),
     }
@@ -159,7 +159,7 @@ fn place_in_package(
     let text = format!(in alloc; "{name}")?;
     let front = "failed to merge package `";
     let end = "` into existing copy: ";
-    let Some(rest) = behind_name(message, front, &text, end) else {
+    let Some(rest) = rest_behind(message, front, &text, end) else {
         return Ok(Span::unknown());
     };
     let span = place_of_interfaces(graph, rest, &home.interfaces);
@@ -215,7 +215,7 @@ fn newer_place(
         return Ok(Span::unknown());
     };
     let end = "`, was this semver-compatible update not semver compatible?: ";
-    match behind_name(text, "", &id, end) {
+    match rest_behind(text, "", &id, end) {
         Some(rest) => Ok(item_place(graph, rest, if newer { new } else { old })),
         None => Ok(Span::unknown()),
     }
@@ -254,7 +254,7 @@ fn older_place(
     let Some(id) = id_of(alloc, graph, old)? else {
         return Ok(Span::unknown());
     };
-    match behind_name(message, "failed to upgrade `", &id, "` to `") {
+    match rest_behind(message, "failed to upgrade `", &id, "` to `") {
         Some(rest) => place_of_newer(alloc, graph, newer, old, rest),
         None => Ok(Span::unknown()),
     }

@@ -55,7 +55,7 @@ fn nearer<'a>(
     name: &'a PackageName,
 ) -> Result<Option<&'a PackageName>, AllocError>
     ensures { IfOk result
-        (λ found. option_copied found ≡ nearer requested.now (option_copied best) name.now) }
+        (λ found. option_copied found ≡ nearer requested.now (option_copied best.entry) name.now) }
 {
     if !is_near(alloc, requested, name)? {
         return Ok(best);
