@@ -175,8 +175,10 @@ class Documents(unittest.TestCase):
         }
         for number, (members, fields) in expected.items():
             error = {"number": number, "cause": "other", "text": "no"}
-            value = {"refused": {"error": error, "fields": members, "places": [], "way": [], "rendered": "no"}}
-            reply = wg.from_json(wg.Reply, value)
+            refused = {"error": error, "fields": members, "places": [], "way": [], "rendered": "no"}
+            nearest = {"nearest": "a:c"} if number == 1 else {}
+            reply = wg.from_json(wg.Reply, {"refused": {**refused, **nearest}})
+            self.assertEqual((reply.nearest, reply.refusal.nearest), (nearest.get("nearest"),) * 2)
             self.assertEqual((reply.fields, reply.refusal.fields), (fields, fields))
             self.assertEqual(json.loads(json.dumps(wg.to_json(reply)))["refused"]["fields"], members)
 

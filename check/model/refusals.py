@@ -1,5 +1,6 @@
 """What a refusal tells as data (docs/JSON.md): its fields by its number and its text, its places and its way by the text that
-shows them."""
+shows them, and the known name that is nearest to one that isn't there."""
+import functools
 import re
 
 NAME = "`(?P<name>.*)`"
@@ -42,6 +43,24 @@ def fields_of(error):
     return fields
 
 
+@functools.cache
+def edits(one, other):
+    """How many characters at least are inserted, deleted or replaced from one text to another."""
+    if not one or not other:
+        return len(one) + len(other)
+    if one[-1] == other[-1]:
+        return edits(one[:-1], other[:-1])
+    return 1 + min(edits(one[:-1], other), edits(one, other[:-1]), edits(one[:-1], other[:-1]))
+
+
+def nearest_of(requested, known):
+    """The known name that is nearest to one that isn't there, None where none is near."""
+    short = requested.partition("@")[0]
+    far = [(edits(short, it.partition("@")[0]), edits(requested, it), at) for at, it in enumerate(known)]
+    near = [it for it in far if it[0] <= len(short) // 3]
+    return known[min(near)[2]] if near and len(requested.encode()) <= 100 else None
+
+
 def place_of(line):
     """The place that a line shows, None of another line."""
     found = PLACE.fullmatch(line)
@@ -79,6 +98,9 @@ def faults(refused):
         fields.pop("span2")
     if fields != wanted:
         yield f"the fields {refused['fields']}, expected {wanted}"
+    nearest = nearest_of(fields["requested"], fields["known"]) if refused["error"]["number"] == 1 else None
+    if refused.get("nearest") != nearest:
+        yield f"the nearest {refused.get('nearest')}, expected {nearest}"
     places, names, steps = shown_in(refused["rendered"].removeprefix(refused["error"]["text"]))
     if refused["places"] != places:
         yield f"the places {refused['places']}, expected {places}"

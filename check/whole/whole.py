@@ -121,12 +121,15 @@ def are_same(ours, theirs):
 
 def are_told_the_same(ours, theirs):
     """Whether a refusal is shown as wit-parser shows it, but for what was asked and the document that says more. Of a
-    package that is defined twice wit-parser tells the places alone, of a line over 500 bytes nothing."""
+    package that is defined twice wit-parser tells the places alone, of things that differ (24, 25) none, of a line over 500
+    bytes nothing."""
     told, shown = theirs["refused"]["rendered"], ours["refused"]["rendered"].rsplit("\n      = ", 2)[0]
     if "is defined in two different locations:" in told:
         places = [line[len("     --> ") :] for line in shown.split("\n") if line.startswith("     --> ")]
         known = [line[len("  * ") :] for line in told.split("\n") if line.startswith("  * ") and line != "  * <unknown>"]
         return places[: len(known)] == known
+    if ours["refused"]["error"]["number"] in (24, 25):
+        shown = ours["refused"]["error"]["text"]
     return shown == told or told.endswith(f": {ours['refused']['error']['text']}")
 
 

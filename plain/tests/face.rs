@@ -283,6 +283,7 @@ fn refusals_are_errors() {
     let refusal = resolve.push_group(made).expect_err("a name that is there");
     assert_eq!(refusal.number(), 5);
     assert!(matches!(refusal.kind(), ResolveErrorKind::DuplicatePackage { .. }));
+    assert_eq!(refusal.nearest_known(), None);
     let shown = refusal.render(resolve.source_map());
     let error: Box<dyn Error> = refusal.into();
     assert_eq!(
@@ -290,6 +291,19 @@ fn refusals_are_errors() {
         "package `foo:a` is defined in two different locations"
     );
     assert!(shown.starts_with(&error.to_string()), "{shown}");
+}
+
+#[test]
+fn the_nearest_known_name_is_told() {
+    let nearest = |requested: &str| {
+        let (span, requested) = (Span::default(), name(requested));
+        let known = vec![name("card"), name("cart"), name("shop")].into();
+        let kind = ResolveErrorKind::PackageNotFound { span, requested, known };
+        ResolveError::from(kind).nearest_known().map(|it| it.to_string())
+    };
+    assert_eq!(nearest("carts"), Some("foo:cart".to_owned()));
+    assert_eq!(nearest("care"), Some("foo:card".to_owned()));
+    assert_eq!(nearest("basket"), None);
 }
 
 #[test]

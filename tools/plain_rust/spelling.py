@@ -31,7 +31,7 @@ RULES = [
     (r"use std::\{slice, vec\};", f"use {SHIM}::vec;\nuse std::slice;"),
     (r"use std::env::\{Env, FillError\};", f"use {SHIM}::env::FillError;"),
     (r"\bstd::(alloc|collections|vec|simd)\b", rf"{SHIM}::\1"),
-    (r"(?<![:\w])(indexmap|semver|json)::", rf"{SHIM}::\1::"),
+    (r"(?<![:\w])(indexmap|semver|json|strsim)::", rf"{SHIM}::\1::"),
     # forms that Rust writes otherwise
     (r"<W: fmt::Write>\((&self, )?f: &mut fmt::Formatter<W>", r"(\1f: &mut fmt::Formatter<'_>"),
     (r"\bformat!\(in\s+[\w.()]+;\s*", "try_format!("),

@@ -79,7 +79,8 @@ class ProgramFailed(Error):
 
 class Refusal(Error):
     """Why a command is refused: `number`, `cause`, `text` and `span`; what the error names, as `fields`; its `places` in files;
-    the `way` from what it names; and `rendered`, which shows all that with the lines and the command."""
+    the `way` from what it names; `rendered`, which shows all that with the lines and the command; and `nearest`, the known
+    package whose name is nearest to one that isn't there (1), if one is near."""
 
     def __init__(
         self,
@@ -91,10 +92,12 @@ class Refusal(Error):
         places: list[Place],
         way: list[WayStep],
         rendered: str,
+        nearest: Optional[str] = None,
     ):
-        super().__init__(number, cause, text, span, fields, places, way, rendered)
+        super().__init__(number, cause, text, span, fields, places, way, rendered, nearest)
         self.number, self.cause, self.text, self.span = number, cause, text, span
         self.fields, self.places, self.way, self.rendered = fields, places, way, rendered
+        self.nearest = nearest
 
     def __str__(self) -> str:
         return self.rendered

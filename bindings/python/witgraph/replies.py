@@ -88,11 +88,13 @@ class Refused(Tagged, tag="refused"):
     places: list[Place]
     way: list[WayStep]
     rendered: str
+    nearest: Optional[str] = None
 
     @property
     def refusal(self) -> Refusal:
         it = self.error
-        return Refusal(it.number, it.cause, it.text, it.span, self.fields, self.places, self.way, self.rendered)
+        told = (self.fields, self.places, self.way, self.rendered, self.nearest)
+        return Refusal(it.number, it.cause, it.text, it.span, *told)
 
 
 @dataclass

@@ -6,6 +6,8 @@ pub mod CoreNamesJson
 pub mod Documents
 pub mod FilePlaces
 pub mod GraphFaults
+pub mod Mismatches
+pub mod Nearest
 pub mod Orders
 pub mod Output
 pub mod Places

@@ -56,11 +56,12 @@ json_of_way_step step =
     ++ member (codes "to") (json_of_text step.to)
     ++ optional (codes "place") (option_map json_of_file_place step.place))
 
--- the error, its fields, its places and its way as data, and the text that shows all of them
+-- the error, its fields, its places, its way and the nearest known name as data, and the text that shows all of them
 abbrev pub json_of_refused : Refusal → Json
 json_of_refused refusal =
     object (member (codes "error") (json_of_refusal refusal.error)
     ++ member (codes "fields") (json_of_fields refusal.error)
     ++ member (codes "places") (list_of json_of_file_place refusal.places)
     ++ member (codes "way") (list_of json_of_way_step refusal.way)
+    ++ optional (codes "nearest") (option_map json_of_package_name refusal.nearest)
     ++ member (codes "rendered") (json_of_text refusal.rendered))

@@ -1,10 +1,11 @@
 -- Refusals as they are told.
-use Rattle.std.specs.Prelude.{ℕ, List, [], ◌∷◌, ◌++◌, codes, decimal, filter_map, flat_map, map}
+use Rattle.std.specs.Prelude.{ℕ, List, [], ◌∷◌, ◌++◌, true, false, codes, decimal, filter_map, flat_map, map}
 use Rattle.std.specs.Option.{option_map_or}
 use Rattle.wit_graph_data.specs.Error.{error_number, error_span}
 use Rattle.wit_graph_data.specs.ErrorText.{kind_text}
+use Rattle.wit_graph_data.specs.declared.cause.Cause.TheVariants.{MergeMismatch, UpgradeMismatch}
 use Rattle.wit_graph_data.specs.declared.error_kind.ResolveErrorKind.{ResolveErrorKind}
-use Rattle.wit_graph_data.specs.declared.error_kind.ResolveErrorKind.TheVariants.{DuplicatePackage}
+use Rattle.wit_graph_data.specs.declared.error_kind.ResolveErrorKind.TheVariants.{DuplicatePackage, Semantic}
 use Rattle.wit_graph_data.specs.declared.graph.Graph.{Graph}
 use Rattle.wit_sources.specs.Locations.{shown_span}
 use Rattle.wit_sources.specs.SourceMap.{Sources}
@@ -13,6 +14,8 @@ use Rattle.wit_sources.specs.declared.source_map.SourceFile.{SourceFile}
 use Rattle.wit_ways.specs.Ways.{way_names}
 use Rattle.wit_ways.specs.declared.arrow.Arrow.{Arrow}
 use Rattle.wit_json_commands.specs.FilePlaces.{file_place}
+use Rattle.wit_json_commands.specs.Mismatches.{merge_place, upgrade_place}
+use Rattle.wit_json_commands.specs.Nearest.{nearest_known}
 use Rattle.wit_json_commands.specs.Places.{first_known, package_span}
 use Rattle.wit_json_commands.specs.declared.replies.answers.Answer.{Answer}
 use Rattle.wit_json_commands.specs.declared.replies.answers.Answer.TheVariants as answer
@@ -20,10 +23,14 @@ use Rattle.wit_json_commands.specs.declared.replies.refusals.WayStep.{WayStep}
 
 -- ---- places
 
--- where an error is; of a package that is defined twice both places, the other one by the graph where the error has none
+-- where an error is; of a package that is defined twice both places, the other one by the graph where the error has none; of
+-- things of the graph that differ (24, 25) where these stand
 abbrev pub error_spans : Graph → ResolveErrorKind → List OptionalSpan
 error_spans g (DuplicatePackage name span1 span2) =
     span1 ∷ first_known (span2 ∷ package_span g name ∷ []) ∷ []
+error_spans g (Semantic span message MergeMismatch) = merge_place g message ∷ []
+error_spans g (Semantic span message UpgradeMismatch) =
+    upgrade_place g false message ∷ upgrade_place g true message ∷ []
 error_spans g kind = error_span kind ∷ []
 
 -- the step of a way that an arrow is, with its place
@@ -70,5 +77,6 @@ refused g files asked way error =
       error = error;
       places = filter_map (file_place files.files) (error_spans g error);
       way = map (way_step files.files) way;
+      nearest = nearest_known error;
       rendered = rendered g files asked way error;
     })

@@ -16,6 +16,7 @@ pub use crate::commands::{
 };
 pub use crate::replies::{
     Answer, CoreExport, CoreImport, CoreNames, FilePlace, Refusal, Response, Unshaped, WayStep,
+    nearest_known,
 };
 pub use crate::runs::{
     execute, fault_text, no_valid_graph, respond, responses_to, without_long_answers,

@@ -1,9 +1,10 @@
 //! Calls on errors.
 
 use super::resolve::answered;
-use crate::made::wit_data::{SourceMap, Span};
+use crate::made::wit_data::{PackageName, SourceMap, Span};
 use crate::made::wit_graph_data::Cause;
 use crate::made::wit_graph_data::{ResolveError, ResolveErrorKind};
+use crate::made::wit_json_commands::nearest_known;
 use crate::made::wit_resolve_graph::{ParseFault, SourceFault};
 use std::error::Error;
 use std::fmt;
@@ -13,6 +14,11 @@ impl ResolveError {
     pub fn new_semantic(span: Span, message: impl Into<String>) -> ResolveError {
         let (message, cause) = (message.into(), Cause::Other);
         ResolveErrorKind::Semantic { span, message, cause }.into()
+    }
+
+    /// The known package whose name is nearest to the one that isn't there; None of other errors, and where none is near.
+    pub fn nearest_known(&self) -> Option<&PackageName> {
+        answered(nearest_known(self.kind()))
     }
 
     /// The text, with the line of the source in which the fault is, where its span is known.

@@ -21,6 +21,7 @@ pub mod semver;
 pub mod simd;
 pub mod streams;
 mod string;
+pub mod strsim;
 #[cfg(test)]
 mod tests;
 pub mod vec;

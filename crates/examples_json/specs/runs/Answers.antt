@@ -119,6 +119,7 @@ pub record ExamplesOfAnswers : Type 0 where
         error = kind.OutOfMemory;
         places = [];
         way = [];
+        nearest = None;
         rendered = codes "out of memory";
       }))
       ≡ codes "{\"refused\":{\"error\":{\"number\":28,\"cause\":\"out-of-memory\","

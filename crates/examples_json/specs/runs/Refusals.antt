@@ -7,6 +7,7 @@ use Rattle.wit_graph_data.specs.declared.error_kind.ResolveErrorKind.TheVariants
 use Rattle.wit_names.specs.declared.package_name.PackageName.{PackageName}
 use Rattle.wit_json.specs.Graph.{compact}
 use Rattle.wit_json_commands.specs.FilePlaces.{file_place}
+use Rattle.wit_json_commands.specs.Nearest.{nearest_known}
 use Rattle.wit_json_commands.specs.RefusalJson.{json_of_fields, json_of_file_place, json_of_refused, json_of_way_step}
 use Rattle.wit_json_commands.specs.Refusals.{error_spans, way_step}
 use Rattle.wit_json_commands.specs.declared.replies.answers.Refusal.{Refusal}
@@ -17,6 +18,19 @@ use Rattle.examples_json.specs.runs.Answers.{a_name, one_file, two_lines, with_w
 
 abbrev pub other_name : PackageName
 other_name = record a_name { version = Some (1, 0, 0, [], []) }
+
+-- a:c, b:b and c:d; and the nearest of some names to a:b
+abbrev pub near_name : PackageName
+near_name = record a_name { name = codes "c" }
+
+abbrev pub as_near_name : PackageName
+as_near_name = record a_name { namespace = codes "b" }
+
+abbrev pub far_name : PackageName
+far_name = record near_name { namespace = codes "c"; name = codes "d" }
+
+abbrev pub nearest_to_it : List PackageName → Option PackageName
+nearest_to_it known = nearest_known (kind.PackageNotFound None a_name known)
 
 abbrev pub fields_text : ResolveErrorKind → List ℕ
 fields_text error = compact (json_of_fields error)
@@ -42,6 +56,7 @@ a_refusal = record {
   error = kind.PackageCycle (Some (20, 21)) a_name;
   places = second_character ∷ [];
   way = a_step None ∷ [];
+  nearest = Some other_name;
   rendered = codes "shown";
 }
 
@@ -72,6 +87,13 @@ pub record ExamplesOfRefusedData : Type 0 where
   pub message : fields_text (kind.Semantic None (codes "no") cause.TypeCycle)
       ≡ codes "{\"message\":\"no\"}"
   pub no_field : fields_text kind.OffsetOverflow ≡ codes "{}"
+  -- the nearest known name: of three characters one may differ; versions count last; of two at one distance the first counts
+  pub near : nearest_to_it (far_name ∷ near_name ∷ []) ≡ Some near_name
+  pub none_near : nearest_to_it (far_name ∷ []) ≡ None
+  pub version_last : nearest_to_it (near_name ∷ other_name ∷ []) ≡ Some other_name
+  pub first_of_two : nearest_to_it (as_near_name ∷ near_name ∷ []) ≡ Some as_near_name
+  pub not_the_last : nearest_to_it (as_near_name ∷ near_name ∷ []) ≢ Some near_name
+  pub not_of_a_cycle : nearest_known (kind.PackageCycle None a_name) ≡ None
   -- where spans begin: in a file, at its end, in none
   pub there : file_place two_lines.files (Some (12, 17)) ≡ Some second_line
   pub in_the_other : file_place two_lines.files (Some (20, 21)) ≡ Some second_character
@@ -102,4 +124,5 @@ pub record ExamplesOfRefusedData : Type 0 where
       ++ codes "\"text\":\"package `a:b` creates a dependency cycle\",\"span\":[20,21]},"
       ++ codes "\"fields\":{\"package\":\"a:b\"},"
       ++ codes "\"places\":[{\"path\":\"g\",\"line\":1,\"column\":2}],"
-      ++ codes "\"way\":[{\"from\":\"a:b\",\"to\":\"c:d\"}],\"rendered\":\"shown\"}"
+      ++ codes "\"way\":[{\"from\":\"a:b\",\"to\":\"c:d\"}],"
+      ++ codes "\"nearest\":\"a:b@1.0.0\",\"rendered\":\"shown\"}"

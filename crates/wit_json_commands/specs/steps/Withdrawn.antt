@@ -1,5 +1,5 @@
 -- Answers that memory is refused for after they were found.
-use Rattle.std.specs.Prelude.{◌≡◌, ◌⊎◌, Bool, true, false, List, [], ◌∷◌, codes}
+use Rattle.std.specs.Prelude.{◌≡◌, ◌⊎◌, Bool, true, false, List, [], ◌∷◌, None, codes}
 use Rattle.wit_graph_data.specs.declared.error_kind.ResolveErrorKind.TheVariants.{OutOfMemory}
 use Rattle.wit_json_commands.specs.Refusals.{text_of_error}
 use Rattle.wit_json_commands.specs.declared.replies.answers.Answer.{Answer}
@@ -18,6 +18,7 @@ no_types =
       error = OutOfMemory;
       places = [];
       way = [];
+      nearest = None;
       rendered = text_of_error [] [] (codes "futures-and-streams") [] OutOfMemory;
     })
 

@@ -13,7 +13,7 @@ use super::refusals::WayStep;
 use super::remaps::write_remap;
 use super::unshaped::Unshaped;
 use std::alloc::AllocError;
-use wit_data::{InterfaceId, Items, PackageId, Text, TypeId, WorldId};
+use wit_data::{InterfaceId, Items, PackageId, PackageName, Text, TypeId, WorldId};
 use wit_graph_data::ResolveError;
 use wit_json::{JsonText, WriteJson};
 use wit_remap::Remap;
@@ -26,6 +26,8 @@ pub struct Refusal {
     pub places: Items<FilePlace>,
     /// How what the error names leads back to itself, or past what isn't exported to what is; empty of other errors.
     pub way: Items<WayStep>,
+    /// The known package whose name is nearest to the one that isn't there, where one is near; None of other errors.
+    pub nearest: Option<PackageName>,
     /// The text of the error with the lines of its places and of its way, and with what was asked.
     pub rendered: Text,
 }
@@ -83,6 +85,7 @@ impl WriteJson for Refusal {
         write_fields(out, self.error.kind())?;
         out.member("places", &self.places)?;
         out.member("way", &self.way)?;
+        out.optional("nearest", &self.nearest)?;
         out.member("rendered", &self.rendered)?;
         out.end_object()
     }

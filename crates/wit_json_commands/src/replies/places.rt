@@ -22,6 +22,16 @@ pub fn package_span(graph: &Graph, name: &PackageName) -> Span
     span_of_worlds(graph, &package.worlds)
 }
 
+/// The span of a world, where it is there.
+pub fn world_span(graph: &Graph, id: WorldId) -> Span
+    ensures { result ≡ world_span graph.now id }
+{
+    match graph.worlds.get(id.index()) {
+        Some(world) => world.span,
+        None => Span::unknown(),
+    }
+}
+
 /// The first known span among those of interfaces.
 fn span_of_interfaces(graph: &Graph, interfaces: &Names<InterfaceId>) -> Span
     ensures { result ≡ first_known (map (λ e. interface_span graph.now e.1) interfaces.now) }

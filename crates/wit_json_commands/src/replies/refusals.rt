@@ -6,11 +6,13 @@ ghost use Rattle.wit_json_commands.specs.Refusals.{error_spans, refused, way_ste
 
 use super::answers::{Answer, Refusal};
 use super::file_places::{FilePlace, file_place};
+use super::mismatches::{merge_place, upgrade_place};
+use super::nearest::nearest_known;
 use super::places::package_span;
 use super::rendered::text_of_error;
 use std::alloc::{AllocError, Global};
 use wit_data::{Items, SourceMap, Span, Text, TryClone};
-use wit_graph_data::{Graph, ResolveError, ResolveErrorKind};
+use wit_graph_data::{Cause, Graph, ResolveError, ResolveErrorKind};
 use wit_json::{JsonText, WriteJson};
 use wit_ways::Arrow;
 
@@ -38,15 +40,21 @@ pub fn refused(
     let rendered = text_of_error(alloc, files, &spans, asked, way, &error)?;
     let places = file_places(alloc, files, &spans)?;
     let way = way_steps(alloc, files, way)?;
+    let nearest = match nearest_known(alloc, error.kind())? {
+        Some(name) => Some(name.try_clone()?),
+        None => None,
+    };
     Ok(Answer::Refused(Refusal {
         error,
         places,
         way,
+        nearest,
         rendered,
     }))
 }
 
 /// Where an error is; of a package that is defined twice both places, the other one by the graph where the error has none.
+/// What is refused since things of the graph differ (24, 25) is where these stand.
 fn error_spans(
     alloc: Global,
     graph: &Graph,
@@ -62,6 +70,20 @@ fn error_spans(
                 package_span(graph, name)
             };
             Ok(vec![in alloc; *span1, other]?)
+        }
+        ResolveErrorKind::Semantic {
+            message,
+            cause: Cause::MergeMismatch,
+            ..
+        } => Ok(vec![in alloc; merge_place(alloc, graph, message.as_str())?]?),
+        ResolveErrorKind::Semantic {
+            message,
+            cause: Cause::UpgradeMismatch,
+            ..
+        } => {
+            let older = upgrade_place(alloc, graph, false, message.as_str())?;
+            let newer = upgrade_place(alloc, graph, true, message.as_str())?;
+            Ok(vec![in alloc; older, newer]?)
         }
         kind => Ok(vec![in alloc; kind.span()]?),
     }
