@@ -1,5 +1,7 @@
 use Rattle.std.proofs.Common.{◌≡◌, ◌<◌, ℕ, Option, None, Some, ap, arith, get_or, refl}
 use Rattle.std.specs.Fmt.{digits}
+use Rattle.std.specs.Str.{chars}
+use Rattle.strsim.specs.Edits.{cost_at, next_row, rows}
 use Rattle.json.specs.Print.{escape_byte, print_from}
 use Rattle.wit_values.specs.facts.Lists.{differ}
 use Rattle.wit_names.specs.declared.package_name.PackageName.{PackageName}
@@ -19,7 +21,7 @@ apart : (a b : ℕ) → b < a → a ≡ b → ⊥
 apart a b more same = omega arith
 
 pub returns : goal.returns
-unfolding digits escape_byte print_from
+unfolding digits escape_byte print_from rows chars next_row cost_at
 returns c = record {
   known = refl;
   not_sorted = differ _ _ refl;
