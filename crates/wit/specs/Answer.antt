@@ -1,9 +1,9 @@
 -- What a call answers of what it read.
-use Rattle.std.specs.Prelude.{◌≡◌, ⊤, ⊥, ℕ, List, [], ◌∷◌, ◌++◌, map, flat_map, Option, Some, Ok, codes}
+use Rattle.std.specs.Prelude.{◌≡◌, ⊤, ℕ, List, [], ◌∷◌, ◌++◌, map, flat_map, Option, Some, Ok, codes}
 use Rattle.std.specs.Option.{option_map_or}
 use Rattle.wit.specs.Pretty.{laid_out}
 use Rattle.wit.specs.CoreNames.{core_names_text}
-use Rattle.wit.specs.Tasks.{AreShaped, DoesAll, world_imports, mains, tasks_of, unlinked}
+use Rattle.wit.specs.Tasks.{AreShaped, DoesAll, world_imports, mains, settings, tasks_of, unlinked}
 use Rattle.wit.specs.declared.files.Sources.{Sources}
 use Rattle.wit.specs.declared.linked.Linked.{Linked}
 use Rattle.wit_elaboration.specs.Entries.{Entry}
@@ -75,5 +75,5 @@ abbrev pub AnswersCall : Options → List Sources → List Sources → List ℕ 
 AnswersCall o sources merges text =
     (pushed : List Groups) × AllRead sources pushed
     × (merged : List Groups) × AllRead merges merged
-    × (linked : Linked) × DoesAll o (unlinked o) (tasks_of pushed merged o.turns) linked
+    × (linked : Linked) × DoesAll (settings o) (unlinked o) (tasks_of pushed merged o.turns) linked
     × WritesAnswer linked o text

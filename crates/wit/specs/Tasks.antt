@@ -1,5 +1,5 @@
 -- What is done to a graph, one after another, and why it is refused.
-use Rattle.std.specs.Prelude.{◌≡◌, ◌⊎◌, ⊤, ⊥, ℕ, Bool, true, false, List, [], ◌∷◌, ◌++◌, map, Option, Some, None, Ok, bytes_eq, codes, fold, unwrap_or, slice_get, option_to_list, option_and_then}
+use Rattle.std.specs.Prelude.{◌≡◌, ◌⊎◌, ⊤, ℕ, Bool, true, false, List, [], ◌∷◌, ◌++◌, map, Option, Some, None, Ok, bytes_eq, codes, fold, if◌then◌else◌, unwrap_or, slice_get, option_to_list, option_and_then}
 use Rattle.std.specs.List.{AllByRecursion, list_any}
 use Rattle.std.specs.Option.{option_map}
 use Rattle.wit.specs.declared.linked.Linked.{Linked}
@@ -110,7 +110,8 @@ first_unknown g entries (key ∷ keys) =
 
 -- the imports of the world of an id, and its name
 abbrev pub world_imports : Graph → ℕ → List Entry
-world_imports g w = unwrap_or (option_map (λ (world : World). world.imports) (slice_get g.worlds w)) []
+world_imports g w =
+    unwrap_or (option_map (λ (world : World). world.imports) (slice_get g.worlds w)) []
 
 abbrev pub name_at : Graph → ℕ → List ℕ
 name_at g w = unwrap_or (option_map (λ (world : World). world.name) (slice_get g.worlds w)) []
@@ -181,40 +182,41 @@ RefusesTurn old turn told =
 
 -- ---- tasks
 
--- a task is done
-abbrev pub Does : Options → Linked → Task → Linked → Type 0
-Does o old (task.Push groups) new =
+-- a task is done; a graph that is merged in begins as `start`
+abbrev pub Does : State → Linked → Task → Linked → Type 0
+Does start old (task.Push groups) new =
     (id : ℕ) × IsPushed old.resolve groups id new.resolve
     × (new.first ≡ Some (unwrap_or old.first id))
-Does o old (task.Merge groups) new =
-    (id : ℕ) × (other : State) × IsPushed (settings o) groups id other
+Does start old (task.Merge groups) new =
+    (id : ℕ) × (other : State) × IsPushed start groups id other
     × (remap : Remap) × Step old.resolve (command.Merge other) (reply.Merged remap) new.resolve
     × (new.first ≡ old.first)
-Does o old (task.Turn turn) new = Turns old turn new
+Does start old (task.Turn turn) new = Turns old turn new
 
 -- a task is refused; the graph that is merged in may be refused before it is there
-abbrev pub Refuses : Options → Linked → Task → Refusal → Type 0
-Refuses o old (task.Push groups) told =
+abbrev pub Refuses : State → Linked → Task → Refusal → Type 0
+Refuses start old (task.Push groups) told =
     RefusesCommand old.resolve (command.PushGroups groups.main groups.deps) told
-Refuses o old (task.Merge groups) told =
-    RefusesCommand (settings o) (command.PushGroups groups.main groups.deps) told
-    ⊎ ((id : ℕ) × (other : State) × IsPushed (settings o) groups id other
+Refuses start old (task.Merge groups) told =
+    RefusesCommand start (command.PushGroups groups.main groups.deps) told
+    ⊎ ((id : ℕ) × (other : State) × IsPushed start groups id other
     × RefusesCommand old.resolve (command.Merge other) told)
-Refuses o old (task.Turn turn) told = RefusesTurn old turn told
+Refuses start old (task.Turn turn) told = RefusesTurn old turn told
 
 -- tasks are done one after another
-abbrev pub DoesAll : Options → Linked → List Task → Linked → Type 0
-DoesAll o old [] new = new ≡ old
-DoesAll o old (task ∷ tasks) new =
-    (mid : Linked) × Does o old task mid × DoesAll o mid tasks new
+abbrev pub DoesAll : State → Linked → List Task → Linked → Type 0
+DoesAll start old [] new = new ≡ old
+DoesAll start old (task ∷ tasks) new =
+    (mid : Linked) × Does start old task mid × DoesAll start mid tasks new
 
 -- one of the tasks is refused after those before it are done
-abbrev pub Stops : Options → Linked → List Task → Refusal → Type 0
-Stops o old [] told = ⊥
-Stops o old (task ∷ tasks) told =
-    Refuses o old task told ⊎ ((mid : Linked) × Does o old task mid × Stops o mid tasks told)
+abbrev pub Stops : State → Linked → List Task → Refusal → Type 0
+Stops start old [] told = ⊥
+Stops start old (task ∷ tasks) told =
+    Refuses start old task told
+    ⊎ ((mid : Linked) × Does start old task mid × Stops start mid tasks told)
 
 -- why there is no answer; want of memory may always be
-abbrev pub StopsOrMemory : Options → Linked → List Task → Refusal → Type 0
-StopsOrMemory o old tasks refusal.OutOfMemory = ⊤
-StopsOrMemory o old tasks (refusal.Told text) = Stops o old tasks (refusal.Told text)
+abbrev pub StopsOrMemory : State → Linked → List Task → Refusal → Type 0
+StopsOrMemory start old tasks refusal.OutOfMemory = ⊤
+StopsOrMemory start old tasks (refusal.Told text) = Stops start old tasks (refusal.Told text)

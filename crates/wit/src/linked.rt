@@ -2,7 +2,7 @@
 ghost use Rattle.std.specs.Prelude.{◌≡◌, ◌<◌, ◌⊎◌, IfErr, IfOk, Ok, OnOk, Some, ℕ, false, length, unwrap_or};
 ghost use Rattle.std.specs.List.{AllByRecursion};
 ghost use Rattle.std.specs.Option.{option_copied};
-ghost use Rattle.wit.specs.Tasks.{AreShaped, Does, DoesAll, IsPushed, IsTaskShaped, Refuses, RefusesCommand, RefusesSelection, RefusesTurn, StopsOrMemory, Turns, is_refusal, mains, unlinked};
+ghost use Rattle.wit.specs.Tasks.{AreShaped, Does, DoesAll, IsPushed, IsTaskShaped, Refuses, RefusesCommand, RefusesSelection, RefusesTurn, StopsOrMemory, Turns, is_refusal, mains, settings, unlinked};
 ghost use Rattle.wit.specs.declared.refusal.Refusal.TheVariants as refusal;
 ghost use Rattle.wit.specs.declared.tasks.Task.TheVariants as task;
 ghost use Rattle.wit_queries.specs.Selection.{selected_world};
@@ -31,9 +31,9 @@ impl Linked {
     pub fn by(alloc: Global, options: &Options, tasks: Items<Task>) -> Result<Linked, Refusal>
         requires { AllByRecursion IsTaskShaped tasks }
         ensures ok { IfOk result
-            (λ linked. DoesAll options.now (unlinked options.now) tasks linked) }
+            (λ linked. DoesAll (settings options.now) (unlinked options.now) tasks linked) }
         ensures told { IfErr result
-            (λ told. StopsOrMemory options.now (unlinked options.now) tasks told) }
+            (λ told. StopsOrMemory (settings options.now) (unlinked options.now) tasks told) }
     {
         let mut linked = Linked::new(alloc, options)?;
         for task in tasks.into_vec() {
@@ -71,9 +71,9 @@ impl Linked {
         task: Task,
     ) -> Result<(), Refusal>
         requires { IsTaskShaped task }
-        ensures ok { OnOk result (Does options.now self.old task self.new) }
+        ensures ok { OnOk result (Does (settings options.now) self.old task self.new) }
         ensures told { IfErr result (λ told. (told ≡ refusal.OutOfMemory)
-            ⊎ Refuses options.now self.old task told) }
+            ⊎ Refuses (settings options.now) self.old task told) }
     {
         match task {
             Task::Push(groups) => self.push(alloc, groups),
@@ -120,9 +120,10 @@ impl Linked {
     /// Merges in another graph, with the same features.
     fn merge(&mut self, alloc: Global, options: &Options, groups: Groups) -> Result<(), Refusal>
         requires { AreShaped groups }
-        ensures ok { OnOk result (Does options.now self.old (task.Merge groups) self.new) }
+        ensures ok { OnOk result
+            (Does (settings options.now) self.old (task.Merge groups) self.new) }
         ensures told { IfErr result (λ told. (told ≡ refusal.OutOfMemory)
-            ⊎ Refuses options.now self.old (task.Merge groups) told) }
+            ⊎ Refuses (settings options.now) self.old (task.Merge groups) told) }
     {
         let mut other = Linked::new(alloc, options)?;
         other.push(alloc, groups)?;
