@@ -20,7 +20,9 @@ use crate::refusal::Refusal;
 use std::alloc::{AllocError, Global};
 use std::process::ExitCode;
 use std::{env, io};
-use wit_options::{Asked, HINT, Options, Outcome, USAGE, UsageFault, asked_for, deliver, or_memory};
+use wit_options::{
+    Asked, HINT, Options, Outcome, USAGE, UsageFault, asked_for, deliver, or_memory,
+};
 use wit_resolve_graph::{Items, Text};
 use wit_streams::Watched;
 
