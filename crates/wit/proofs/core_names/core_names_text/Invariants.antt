@@ -14,4 +14,4 @@ invariant-loop-placed l =
 
 abbrev pub invariant-loop-placed-2 : goal.invariant-loop-placed-2
 invariant-loop-placed-2 l =
-    string_bytes l.text ++ flat_map (export_line l.resolve.graph l.mangling) (placed_functions (into_iter_items l.placed-2-iterator)) ≡ core_names_text l.resolve.graph l.mangling l.id
+    string_bytes l.text ++ flat_map (export_line l.resolve.graph l.mangling) (placed_functions (into_iter_items l.placed-iterator)) ≡ core_names_text l.resolve.graph l.mangling l.id

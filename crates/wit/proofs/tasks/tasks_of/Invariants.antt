@@ -8,7 +8,7 @@ abbrev pub invariant-loop-groups : goal.invariant-loop-groups
 invariant-loop-groups l = l.tasks ++ map task.Push (into_iter_items l.groups-iterator) ≡ map task.Push l.fn.pushed
 
 abbrev pub invariant-loop-groups-2 : goal.invariant-loop-groups-2
-invariant-loop-groups-2 l = l.tasks ++ map task.Merge (into_iter_items l.groups-2-iterator) ≡ map task.Push l.fn.pushed ++ map task.Merge l.fn.merged
+invariant-loop-groups-2 l = l.tasks ++ map task.Merge (into_iter_items l.groups-iterator) ≡ map task.Push l.fn.pushed ++ map task.Merge l.fn.merged
 
 abbrev pub invariant-loop-turn : goal.invariant-loop-turn
 invariant-loop-turn l =
