@@ -7,24 +7,17 @@ use Rattle.std.specs.Cmp.{IsEquivalence}
 use Rattle.std.specs.Fn.{FnReturnsAt, Shared}
 use Rattle.wit_values.specs.facts.Lists.{lookup-before}
 use Rattle.std.specs.List.{AllByRecursion, IsDistinct, items_where_true, list_any, position_or_len}
-use Rattle.std.specs.declared.alloc.Global.{Global}
-use Rattle.std.specs.declared.vec.Vec.{Vec}
 use Rattle.std.specs.Map.{keys_of, lookup, values_of}
-use Rattle.std.specs.Option.{option_map_or}
 use Rattle.std_collections.proofs.Entries.{keys_set_value_at}
 use Rattle.indexmap.proofs.CallerLemmas.{insert_entry-new}
-use Rattle.indexmap.specs.IndexMap.{IndexMap, insert_entry, move_index, set_value_at}
-use Rattle.wit_values.specs.Lends.{with_second, with_value}
-use Rattle.wit_values.specs.Pairs.{HaveKeysApart, Tells, last_from, pairs_of}
-use Rattle.wit_values.specs.declared.pairs.Pairs.{Pairs}
-use Rattle.wit_values.specs.declared.pairs.Pairs.TheVariants.{Few, Many}
+use Rattle.indexmap.specs.IndexMap.{IndexMap, insert_entry, set_value_at}
+use Rattle.wit_values.specs.Pairs.{Tells, last_from}
 use borrow.Rule.Slice.PartMut.{mid_of, put_mid}
 use lib.Seq.{take_at}
 use Rattle.std.proofs.lemmas.List.Edits.{length-remove}
 use Rattle.std.proofs.lemmas.Slice.{put_mid-rotated}
 use Rattle.std.proofs.lemmas.List.Sorted.{IsPermutation-map, IsPermutation-remove}
 use Rattle.std.proofs.lemmas.Option.{get_or_from_slice_get, slice_get_within}
-use Rattle.indexmap.proofs.RemoveLemmas.{moved_last}
 use Rattle.indexmap.proofs.MapLemmas.{distinct_permutation, Found-position, some_index, value_index}
 
 -- no keys differ
@@ -128,26 +121,14 @@ nothing (Some v) none = cc
 
 module _ {K V : Type 0} where
   -- a write to the second part of a pair
-  items-with_second : (es : List (K × V)) (i : ℕ) (w : V) (o : Option (K × V)) → slice_get es i ≡ o → option_map_or (λ (e : K × V). slice_set es i (e.0, w)) o es ≡ set_value_at es i w
-  items-with_second [] i w None at = refl
-  items-with_second [] i w (Some e) at = cc
-  items-with_second (d ∷ es) zero w None at = cc
-  items-with_second (d ∷ es) zero w (Some e) at = let same : d ≡ e = cc in ap (λ (p : K × V). (p.0, w) ∷ es) (sym same)
-  items-with_second (d ∷ es) (suc i) w None at = ap (λ (l : List (K × V)). d ∷ l) (items-with_second es i w None at)
-  items-with_second (d ∷ es) (suc i) w (Some e) at = ap (λ (l : List (K × V)). d ∷ l) (items-with_second es i w (Some e) at)
+  pub set_second : (es : List (K × V)) (i : ℕ) (e : K × V) (w : V) → slice_get es i ≡ Some e → slice_set es i (e.0, w) ≡ set_value_at es i w
+  set_second [] i e w at = cc
+  set_second (d ∷ es) zero e w at = let same : d ≡ e = cc in ap (λ (p : K × V). (p.0, w) ∷ es) (sym same)
+  set_second (d ∷ es) (suc i) e w at = ap (λ (l : List (K × V)). d ∷ l) (set_second es i e w at)
 
-  of_second : (few : Vec (K × V) Global) (i : ℕ) (w : V) (o : Option (K × V)) → (with_second few i o w).items ≡ option_map_or (λ (e : K × V). slice_set few.items i (e.0, w)) o few.items
-  of_second few i w None = refl
-  of_second few i w (Some e) = refl
-
-  pub pairs-with_value : (es : Pairs K V) (i : ℕ) (w : V) → pairs_of (with_value es i w) ≡ set_value_at (pairs_of es) i w
-  pairs-with_value (Few few) i w = of_second few i w (slice_get few.items i) ∙ items-with_second few.items i w (slice_get few.items i) refl
-  pairs-with_value (Many map) i w = refl
-
-  pub apart-with_value : (eq : K → K → Bool) (es : Pairs K V) (i : ℕ) (w : V) → HaveKeysApart eq es → HaveKeysApart eq (with_value es i w)
-  apart-with_value eq (Few few) i w apart =
-      subst (IsDistinct eq) (sym (ap keys_of (pairs-with_value (Few few) i w) ∙ keys_set_value_at few.items i w)) apart
-  apart-with_value eq (Many map) i w apart = tt
+  -- which leaves the keys
+  pub keys-set_second : (es : List (K × V)) (i : ℕ) (e : K × V) (w : V) → slice_get es i ≡ Some e → keys_of (slice_set es i (e.0, w)) ≡ keys_of es
+  keys-set_second es i e w at = ap keys_of (set_second es i e w at) ∙ keys_set_value_at es i w
 
 -- ---- a pair that is taken out, and put at the end
 
@@ -197,8 +178,3 @@ turned_last es xs i k n ys same within long count turned =
     let put : put_mid i k xs ys ≡ last_from es i = put_mid-rotated i k xs ys here.0 (omega (arith, ap length same)) long turned
     ∙ (λ j. remove (same j) i ++ get_or (same j) i here.0 ∷ []) ∙ ap (λ e. remove es i ++ e ∷ []) (get_or_from_slice_get es i here.0 here.0 here.1) ∙ last_is es i here.0 here.1 in
     take_at (put_mid i k xs ys) (drop (length (put_mid i k xs ys)) es) n (ap length put ∙ length-last es i within ∙ sym count) ∙ put
-
-pub map_last : {X : Type 0} (xs : List X) (i n : ℕ) → i < length xs → n ≡ length xs → move_index xs i (n - 1) ≡ last_from xs i
-map_last xs i n within is =
-    let here = there xs i within in
-    ap (λ m. move_index xs i (m - 1)) is ∙ moved_last xs i here.0 here.1 ∙ last_is xs i here.0 here.1

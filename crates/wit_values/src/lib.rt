@@ -8,6 +8,7 @@
 //! or to become one.
 #![tactic(auto)]
 
+mod index;
 mod items;
 mod name_set;
 mod names;

@@ -2,10 +2,9 @@
 ghost use Rattle.std.specs.Prelude.{◌≡◌, ◌++◌, ◌∷◌, [], ◌^◌, ◌↔◌, ◌<◌, length, IsTrue, OnOk, OnErr, slice_get, Some, if◌then◌else◌};
 ghost use Rattle.std.specs.List.{list_any, IsDistinct};
 ghost use Rattle.std.specs.Str.{bytes_eq};
-ghost use Rattle.wit_values.specs.NameSet.{texts_of};
 
+use crate::Names;
 use crate::try_clone::TryClone;
-use indexmap::IndexSet;
 use std::alloc::{AllocError, Global};
 use std::fmt;
 use std::marker::Model;
@@ -13,16 +12,16 @@ use std::marker::Model;
 /// Texts that differ, in the order in which they came. Indices count from 0.
 #[derive(Drop)]
 pub struct NameSet {
-    inner: IndexSet<String>,
+    inner: Names<()>,
 }
 
 impl Model for NameSet {
     ghost use Rattle.std.specs.Prelude.{List, ℕ};
-    ghost use Rattle.wit_values.specs.NameSet.{texts_of};
+    ghost use Rattle.std.specs.Map.{keys_of};
 
     ghost Value = { List (List ℕ) };
 
-    ghost view = { λ s. texts_of s.inner.keys };
+    ghost view = { λ s. keys_of s.inner };
 }
 
 impl NameSet {
@@ -31,7 +30,7 @@ impl NameSet {
         ensures { result ≡ [] }
     {
         NameSet {
-            inner: IndexSet::new(alloc),
+            inner: Names::new(alloc),
         }
     }
 
@@ -55,7 +54,7 @@ impl NameSet {
     pub fn contains(&self, text: &str) -> bool
         ensures { result ≡ list_any (bytes_eq text.now) self.now }
     {
-        self.inner.contains(text)
+        self.inner.contains_key(text)
     }
 
     /// The text at an index, which is below the length.
@@ -63,10 +62,7 @@ impl NameSet {
         requires { index < length self.now }
         ensures { slice_get self.now index ≡ Some result.now }
     {
-        match self.inner.get_index(index) {
-            Some(text) => text.as_str(),
-            None => unreachable!(),
-        }
+        self.inner.entry_at(index).0
     }
 
     /// Adds a text at the end where it isn't there yet. Where there is no memory the set is as before.
@@ -76,25 +72,22 @@ impl NameSet {
             else self.old ++ text.now ∷ [])) }
         ensures unchanged { OnErr result (self.new ≡ self.old) }
     {
-        let owned = String::from_str(alloc, text)?;
-        self.inner.insert(owned)?;
-        Ok(())
+        if self.contains(text) {
+            return Ok(());
+        }
+        self.inner.push(String::from_str(alloc, text)?, ())
     }
 
     /// The allocator that the set was made with, of which contracts say nothing.
     pub fn allocator(&self) -> Global {
-        *self.inner.allocator()
+        self.inner.allocator()
     }
 }
 
 impl TryClone for NameSet {
     fn try_clone(&self) -> Result<NameSet, AllocError> {
-        let alloc = self.allocator();
-        let mut copy = NameSet::new(alloc);
-        for text in self.inner.iter() {
-            copy.insert(alloc, text.as_str())?;
-        }
-        Ok(copy)
+        let inner = self.inner.try_clone()?;
+        Ok(NameSet { inner })
     }
 }
 

@@ -1,13 +1,14 @@
-//! Pairs in order: few of them in a list, many in a map that finds a key by its hash.
-ghost use Rattle.std.specs.Prelude.{◌≡◌, ◌++◌, ◌∷◌, [], ◌<◌, ◌≤◌, Bool, IfOk, None, OnErr, OnOk, Some, filter, length, position, remove, slice_get, take};
+//! Pairs in a list, and their index, where they have one.
+ghost use Rattle.std.specs.Prelude.{◌≡◌, ◌+◌, ◌++◌, ◌∷◌, [], ◌<◌, ◌≤◌, Bool, IfOk, IsTrue, List, OnOk, filter, length, map, position, remove, slice_get, Some, take, vec_capacity};
 ghost use Rattle.std.specs.Fn.{FnReturnsAt};
+ghost use Rattle.std.specs.Hash.{HashWrites};
 ghost use Rattle.std.specs.List.{IsDistinct};
-ghost use Rattle.std.specs.Map.{keys_of, lookup, values_of};
-ghost use Rattle.std.specs.Borrow.{sem};
-ghost use Rattle.wit_values.specs.Lends.{LendsPairsValue};
-ghost use Rattle.wit_values.specs.Pairs.{Tells, last_from, pairs_of};
+ghost use Rattle.std.specs.Map.{keys_of};
+ghost use Rattle.wit_values.specs.Index.{CanIndex, HasRoom, Indexes};
+ghost use Rattle.wit_values.specs.Pairs.{Tells, last_from};
 ghost use Rattle.indexmap.specs.IndexMap.{spare};
 
+use crate::index::Index;
 use indexmap::{Equivalent, IndexMap};
 use std::alloc::{AllocError, Global};
 use std::hash::Hash;
@@ -17,69 +18,96 @@ use std::hash::Hash;
 /// Most tables have fewer: they take one block of memory, and to compare a few keys is no more work than to hash one.
 pub(crate) const FEW: usize = 16;
 
-/// Pairs in order.
-#[derive(Drop)]
-pub(crate) enum Pairs<K: Eq + Hash, V> {
-    Few(Vec<(K, V)>),
-    Many(Box<IndexMap<K, V>>),
-}
-
-impl<K: Eq + Hash, V> Pairs<K, V> {
-    /// The value at an index, which is below the length, to write.
-    pub(crate) fn value_at_mut(&mut self, index: usize) -> &mut V
-        requires { index < length (pairs_of self.old) }
-        ensures* writes_back { sem 𝓛 (LendsPairsValue K.row V.row K.Hash self.entry index result) }
-        ensures value { slice_get (values_of (pairs_of self.old)) index ≡ Some result.now }
-    {
-        match self {
-            Pairs::Few(pairs) => {
-                let pair = &mut pairs[index];
-                &mut pair.1
-            }
-            Pairs::Many(map) => &mut map[index],
-        }
+/// The index of a key, or None where it isn't there.
+pub(crate) fn find<K: Eq + Hash, V, Q: Equivalent<K>>(
+    index: &Option<Box<Index>>,
+    pairs: &[(K, V)],
+    key: Q,
+) -> Option<usize>
+    requires indexed { Indexes index.now (map K.hash_input (keys_of pairs.now)) }
+    requires distinct { IsDistinct K.eq (keys_of pairs.now) }
+    ensures { result ≡ position (Q.equivalent key) (keys_of pairs.now) }
+{
+    match index {
+        None => index_of(pairs, key),
+        Some(index) => index.find(pairs, key),
     }
 }
 
-/// The index of a key, or None where it isn't there.
-pub(crate) fn index_of<K: Eq + Hash, V, Q: Equivalent<K>>(pairs: &[(K, V)], key: Q) -> Option<usize>
+/// The same without an index.
+fn index_of<K: Eq + Hash, V, Q: Equivalent<K>>(pairs: &[(K, V)], key: Q) -> Option<usize>
     ensures { result ≡ position (Q.equivalent key) (keys_of pairs.now) }
 {
     pairs.iter().position(|pair| key.equivalent(&pair.0))
 }
 
-/// Adds a pair under a key that isn't there. The list grows to twice its room, and begins with room for one pair.
-#[tactic(auto, using(crate::proofs::PairsLemmas::IsDistinct_more))]
-pub(crate) fn add<K: Eq + Drop, V: Drop>(
-    pairs: &mut Vec<(K, V)>,
-    key: K,
-    value: V,
-) -> Result<(), AllocError>
-    requires { lookup (K.eq key) pairs.old.items ≡ None }
-    ensures ok { OnOk result (pairs.new.items ≡ pairs.old.items ++ (key, value) ∷ []) }
-    ensures distinct { OnOk result
-        (IsDistinct K.eq (keys_of pairs.old.items) → IsDistinct K.eq (keys_of pairs.new.items)) }
-    ensures unchanged { OnErr result (pairs.new.items ≡ pairs.old.items) }
+/// Whether so many pairs need no other index.
+pub(crate) fn has_room(index: &Option<Box<Index>>, count: usize) -> bool
+    ensures { IsTrue result → HasRoom index.now count }
+{
+    match index {
+        None => count <= FEW,
+        Some(index) => index.has_room(count),
+    }
+}
+
+/// An index of some pairs, with room for so many.
+pub(crate) fn index_with_room<K: Eq + Hash, V>(
+    alloc: Global,
+    pairs: &[(K, V)],
+    room: usize,
+) -> Result<Option<Box<Index>>, AllocError>
+    requires { length pairs.now ≤ room }
+    ensures indexes { IfOk result
+        (λ index. Indexes index (map K.hash_input (keys_of pairs.now))) }
+    ensures room { IfOk result (λ index. HasRoom index room) }
+{
+    let index = Index::of(alloc, pairs, room)?;
+    Ok(Some(Box::new(alloc, index)?))
+}
+
+/// Adds to an index what comes behind the first `count` pairs.
+pub(crate) fn add<K: Eq + Hash>(index: &mut Option<Box<Index>>, count: usize, key: &K)
+    requires indexed { CanIndex index.old count }
+    requires room { HasRoom index.old (count + 1) }
+    ensures { (keys : List HashWrites) → length keys ≡ count → Indexes index.old keys
+        → Indexes index.new (keys ++ K.hash_input key.now ∷ []) }
+{
+    if let Some(index) = index {
+        index.add(count, key);
+    }
+}
+
+/// Lets an index find some pairs where they stand now.
+pub(crate) fn index_anew<K: Eq + Hash, V>(index: &mut Option<Box<Index>>, pairs: &[(K, V)])
+    requires indexed { CanIndex index.old 0 }
+    requires room { HasRoom index.old (length pairs.now) }
+    ensures { Indexes index.new (map K.hash_input (keys_of pairs.now)) }
+{
+    if let Some(index) = index {
+        index.refill(pairs);
+    }
+}
+
+/// Leaves the first `len` pairs in an index.
+pub(crate) fn cut_index<K: Eq + Hash, V>(index: &mut Option<Box<Index>>, pairs: &[(K, V)], len: usize)
+    requires { Indexes index.old (map K.hash_input (keys_of pairs.now)) }
+    ensures { Indexes index.new (take len (map K.hash_input (keys_of pairs.now))) }
+{
+    if let Some(index) = index {
+        index.cut(pairs, len);
+    }
+}
+
+/// Makes room for one more pair. The list grows to twice its room, and begins with room for one pair.
+pub(crate) fn make_room<K, V>(pairs: &mut Vec<(K, V)>) -> Result<(), AllocError>
+    ensures same { pairs.new.items ≡ pairs.old.items }
+    ensures room { OnOk result (length pairs.new.items < vec_capacity pairs.new) }
 {
     let len = pairs.len();
     if len == pairs.capacity() {
         pairs.reserve_exact(len.max(1))?;
     }
-    pairs.push((key, value))?;
-    Ok(())
-}
-
-/// Adds a pair to a map under a key that isn't there.
-pub(crate) fn add_indexed<K: Eq + Hash + Drop, V: Drop>(
-    map: &mut IndexMap<K, V>,
-    key: K,
-    value: V,
-) -> Result<(), AllocError>
-    requires { lookup (K.eq key) map.old.entries ≡ None }
-    ensures ok { OnOk result (map.new.entries ≡ map.old.entries ++ (key, value) ∷ []) }
-    ensures unchanged { OnErr result (map.new.entries ≡ map.old.entries) }
-{
-    map.insert(key, value)?;
     Ok(())
 }
 
@@ -103,18 +131,6 @@ pub(crate) fn take_out<K: Eq, V>(pairs: &mut Vec<(K, V)>, index: usize) -> (K, V
     pairs.remove(index)
 }
 
-/// Takes out the pair of a map at an index, which is below the length; those behind it move up.
-pub(crate) fn take_out_indexed<K: Eq + Hash, V>(map: &mut IndexMap<K, V>, index: usize) -> (K, V)
-    requires { index < length map.old.entries }
-    ensures pair { slice_get map.old.entries index ≡ Some result }
-    ensures others { map.new.entries ≡ remove map.old.entries index }
-{
-    match map.shift_remove_index(index) {
-        Some(pair) => pair,
-        None => unreachable!(),
-    }
-}
-
 /// Moves the pair at an index, which is below the length, to the end; those behind it move up.
 pub(crate) fn move_last<K: Eq, V>(pairs: &mut Vec<(K, V)>, index: usize)
     requires { index < length pairs.old.items }
@@ -123,26 +139,6 @@ pub(crate) fn move_last<K: Eq, V>(pairs: &mut Vec<(K, V)>, index: usize)
         → IsDistinct K.eq (keys_of pairs.new.items) }
 {
     pairs[index..].rotate_left(1);
-}
-
-/// Moves the pair of a map at an index, which is below the length, to the end; those behind it move up.
-pub(crate) fn move_last_indexed<K: Eq + Hash, V>(map: &mut IndexMap<K, V>, index: usize)
-    requires { index < length map.old.entries }
-    ensures { map.new.entries ≡ last_from map.old.entries index }
-{
-    map.move_index(index, map.len() - 1);
-}
-
-/// An empty map with room for so many pairs.
-pub(crate) fn map_with_room<K: Eq + Hash + Drop, V: Drop>(
-    alloc: Global,
-    room: usize,
-) -> Result<Box<IndexMap<K, V>>, AllocError>
-    ensures empty { IfOk result (λ map. map.value.entries ≡ []) }
-    ensures room { IfOk result (λ map. room ≤ spare map.value) }
-{
-    let map = IndexMap::with_capacity(alloc, room)?;
-    Ok(Box::new(alloc, map)?)
 }
 
 /// Puts pairs into an empty map, which has room for them.
@@ -176,19 +172,3 @@ pub(crate) fn retain<K: Eq + Drop, V: Drop, F: Fn(&V) -> bool>(pairs: &mut Vec<(
     );
 }
 
-/// Leaves the pairs of a map whose value passes a test, in order.
-pub(crate) fn retain_indexed<K: Eq + Hash + Drop, V: Drop, F: Fn(&V) -> bool>(
-    map: &mut IndexMap<K, V>,
-    keep: F,
-)
-    requires { F.IsAlwaysCallable keep }
-    ensures { (test : V → Bool) → Tells F.Fn keep test
-        → map.new.entries ≡ filter (λ e. test e.1) map.old.entries }
-{
-    map.retain(
-        |_key: &K, value: &mut V| -> bool
-            requires { F.IsAlwaysCallable keep }
-            ensures { FnReturnsAt F.Fn keep value.old result × (value.new ≡ value.old) }
-        { keep(&*value) },
-    );
-}

@@ -6,12 +6,13 @@ ghost use Rattle.std.specs.Map.{keys_of, lookup, values_of};
 ghost use Rattle.std.specs.Map.Iter.{ShowsInOrder, deref_pair};
 ghost use Rattle.std.specs.Option.{option_copied, option_map};
 ghost use Rattle.wit_values.specs.Lends.{LendsValue};
-ghost use Rattle.wit_values.specs.Pairs.{HaveKeysApart, Tells, last_from, pairs_of};
+ghost use Rattle.wit_values.specs.Pairs.{Tells, last_from};
 ghost use Rattle.wit_values.specs.Table.{HasDistinctKeys};
 
+use crate::index::Index;
 use crate::pairs::{
-    FEW, Pairs, add, add_indexed, cut, fill, index_of, map_with_room, move_last, move_last_indexed,
-    retain, retain_indexed, take_out, take_out_indexed,
+    add, cut, cut_index, fill, find, has_room, index_anew, index_with_room, make_room, move_last,
+    retain, take_out,
 };
 use crate::table_iter::{IntoPairs, TableIter};
 use crate::try_clone::{TryClone, try_clone_two};
@@ -19,22 +20,28 @@ use indexmap::{Equivalent, IndexMap};
 use std::alloc::{AllocError, Global};
 use std::hash::Hash;
 use std::marker::Model;
-use std::{fmt, mem};
+use std::fmt;
 
 /// A table in insertion order, whose keys differ. Indices count from 0.
+///
+/// Few pairs have no index: to compare a few keys is no more work than to hash one.
 pub struct Table<K: Eq + Hash, V> {
-    pairs: Pairs<K, V>,
+    pairs: Vec<(K, V)>,
+    index: Option<Box<Index>>,
 }
 
 impl<K: Eq + Hash, V> Model for Table<K, V> {
-    ghost use Rattle.std.specs.Prelude.{List};
-    ghost use Rattle.wit_values.specs.Pairs.{HaveKeysApart, pairs_of};
+    ghost use Rattle.std.specs.Prelude.{List, map};
+    ghost use Rattle.std.specs.List.{IsDistinct};
+    ghost use Rattle.std.specs.Map.{keys_of};
+    ghost use Rattle.wit_values.specs.Index.{Indexes};
 
     ghost Value = { List (K × V) };
 
-    ghost view = { λ t. pairs_of t.pairs };
+    ghost view = { λ t. t.pairs.items };
 
-    ghost invariant = { λ t. HaveKeysApart K.eq t.pairs };
+    ghost invariant = { λ t. IsDistinct K.eq (keys_of t.pairs.items)
+        × Indexes t.index (map K.hash_input (keys_of t.pairs.items)) };
 }
 
 impl<K: Eq + Hash, V> Table<K, V> {
@@ -43,7 +50,8 @@ impl<K: Eq + Hash, V> Table<K, V> {
         ensures { result ≡ [] }
     {
         Table {
-            pairs: Pairs::Few(Vec::new(alloc)),
+            pairs: Vec::new(alloc),
+            index: None,
         }
     }
 
@@ -54,11 +62,12 @@ impl<K: Eq + Hash, V> Table<K, V> {
         V: Drop,
         ensures { IfOk result (λ table. table ≡ map.entries) }
     {
-        let alloc = *map.allocator();
-        let map = Box::new(alloc, map)?;
-        Ok(Table {
-            pairs: Pairs::Many(map),
-        })
+        let mut table = Table::new(*map.allocator());
+        table.reserve(map.len())?;
+        for (key, value) in map {
+            table.push(key, value)?;
+        }
+        Ok(table)
     }
 
     /// Its pairs as an `IndexMap`. The only error is want of memory.
@@ -68,15 +77,10 @@ impl<K: Eq + Hash, V> Table<K, V> {
         V: Drop,
         ensures { IfOk result (λ map. map.entries ≡ self) }
     {
-        match self.into_inner() {
-            Pairs::Few(pairs) => {
-                let alloc = *pairs.allocator();
-                let mut map = IndexMap::with_capacity(alloc, pairs.len())?;
-                fill(&mut map, pairs);
-                Ok(map)
-            }
-            Pairs::Many(map) => Ok(Box::into_inner(map)),
-        }
+        let pairs = self.into_inner();
+        let mut map = IndexMap::with_capacity(*pairs.allocator(), pairs.len())?;
+        fill(&mut map, pairs);
+        Ok(map)
     }
 
     /// How many pairs it has.
@@ -85,10 +89,7 @@ impl<K: Eq + Hash, V> Table<K, V> {
         ensures small { result < 2 ^ 63 }
         ensures distinct { IsDistinct K.eq (keys_of self.now) }
     {
-        match &self.pairs {
-            Pairs::Few(pairs) => pairs.len(),
-            Pairs::Many(map) => map.len(),
-        }
+        self.pairs.len()
     }
 
     /// The keys of a table differ: a fact for proofs, which does nothing.
@@ -138,23 +139,15 @@ impl<K: Eq + Hash, V> Table<K, V> {
         ensures index { result ≡ position (Q.equivalent key) (keys_of self.now) }
         ensures distinct { IsDistinct K.eq (keys_of self.now) }
     {
-        match &self.pairs {
-            Pairs::Few(pairs) => index_of(pairs, key),
-            Pairs::Many(map) => map.get_index_of(key),
-        }
+        find(&self.index, self.pairs.as_slice(), key)
     }
 
     /// The pair at an index, or None where the table is no longer than that.
     pub fn get_index(&self, index: usize) -> Option<(&K, &V)>
         ensures { option_map deref_pair result ≡ slice_get self.now index }
     {
-        match &self.pairs {
-            Pairs::Few(pairs) => {
-                let pair = pairs.get(index)?;
-                Some((&pair.0, &pair.1))
-            }
-            Pairs::Many(map) => map.get_index(index),
-        }
+        let pair = self.pairs.get(index)?;
+        Some((&pair.0, &pair.1))
     }
 
     /// The first pair, or None where there is none.
@@ -188,7 +181,8 @@ impl<K: Eq + Hash, V> Table<K, V> {
         ensures* writes_back { sem 𝓛 (LendsValue K.row V.row K.Hash self.entry index result) }
         ensures value { slice_get (values_of self.old) index ≡ Some result.now }
     {
-        self.pairs.value_at_mut(index)
+        let pair = &mut self.pairs[index];
+        &mut pair.1
     }
 
     /// The pairs, in order.
@@ -197,10 +191,7 @@ impl<K: Eq + Hash, V> Table<K, V> {
         ensures runs { ShowsInOrder (deref_pair {K = K} {X = V}) }
         ensures distinct { IsDistinct K.eq (keys_of self.now) }
     {
-        match &self.pairs {
-            Pairs::Few(pairs) => TableIter::of_few(pairs.iter()),
-            Pairs::Many(map) => TableIter::of_many(map.iter()),
-        }
+        TableIter::of(self.pairs.iter())
     }
 
     /// The pairs, in order, each by value.
@@ -210,31 +201,25 @@ impl<K: Eq + Hash, V> Table<K, V> {
         V: Drop,
         ensures { result ≡ self }
     {
-        match self.into_inner() {
-            Pairs::Few(pairs) => IntoPairs::of_few(pairs.into_iter()),
-            Pairs::Many(map) => IntoPairs::of_many(Box::into_inner(map).into_iter()),
-        }
+        IntoPairs::of(self.into_inner().into_iter())
     }
 
     /// Its pairs, moved out.
-    fn into_inner(self) -> Pairs<K, V>
+    fn into_inner(self) -> Vec<(K, V)>
     where
         K: Drop,
         V: Drop,
-        ensures pairs { pairs_of result ≡ self }
-        ensures distinct { HaveKeysApart K.eq result }
+        ensures pairs { result.items ≡ self }
+        ensures distinct { IsDistinct K.eq (keys_of result.items) }
     {
-        let alloc = self.allocator();
-        let mut table = self;
-        mem::replace(&mut table.pairs, Pairs::Few(Vec::new(alloc)))
+        let Table { pairs, index } = self;
+        drop(index);
+        pairs
     }
 
     /// The allocator that the table was made with, of which contracts say nothing.
     pub fn allocator(&self) -> Global {
-        match &self.pairs {
-            Pairs::Few(pairs) => *pairs.allocator(),
-            Pairs::Many(map) => *map.allocator(),
-        }
+        *self.pairs.allocator()
     }
 
     /// Makes room for `additional` more pairs. The pairs stay as they are, also where there is no memory.
@@ -245,30 +230,10 @@ impl<K: Eq + Hash, V> Table<K, V> {
         ensures { self.new ≡ self.old }
     {
         let all = self.len().saturating_add(additional);
-        if FEW < all {
-            self.index(all)?;
+        if !has_room(&self.index, all) {
+            self.index = index_with_room(self.allocator(), self.pairs.as_slice(), all)?;
         }
-        match &mut self.pairs {
-            Pairs::Few(pairs) => pairs.reserve_exact(additional),
-            Pairs::Many(map) => map.reserve(additional),
-        }
-    }
-
-    /// Gives few pairs an index with room for so many. Where there is no memory the table is as before.
-    fn index(&mut self, room: usize) -> Result<(), AllocError>
-    where
-        K: Drop,
-        V: Drop,
-        requires { length self.old ≤ room }
-        ensures { self.new ≡ self.old }
-    {
-        if let Pairs::Few(pairs) = &mut self.pairs {
-            let alloc = *pairs.allocator();
-            let mut map = map_with_room(alloc, room)?;
-            fill(map.as_mut(), mem::replace(pairs, Vec::new(alloc)));
-            self.pairs = Pairs::Many(map);
-        }
-        Ok(())
+        self.pairs.reserve_exact(additional)
     }
 
     /// Adds a pair at the end, under a key that isn't there yet. Where there is no memory the table
@@ -282,13 +247,13 @@ impl<K: Eq + Hash, V> Table<K, V> {
         ensures unchanged { OnErr result (self.new ≡ self.old) }
     {
         let len = self.len();
-        if len == FEW {
-            self.index(FEW + 1)?;
+        if !has_room(&self.index, len + 1) {
+            self.index = index_with_room(self.allocator(), self.pairs.as_slice(), 2 * len)?;
         }
-        match &mut self.pairs {
-            Pairs::Few(pairs) => add(pairs, key, value),
-            Pairs::Many(map) => add_indexed(map.as_mut(), key, value),
-        }
+        make_room(&mut self.pairs)?;
+        add(&mut self.index, len, &key);
+        self.pairs.push_reserved((key, value));
+        Ok(())
     }
 
     /// Takes out the pair at an index, which is below the length; those behind it move up. It takes no memory.
@@ -297,10 +262,9 @@ impl<K: Eq + Hash, V> Table<K, V> {
         ensures pair { slice_get self.old index ≡ Some result }
         ensures others { self.new ≡ remove self.old index }
     {
-        match &mut self.pairs {
-            Pairs::Few(pairs) => take_out(pairs, index),
-            Pairs::Many(map) => take_out_indexed(map.as_mut(), index),
-        }
+        let pair = take_out(&mut self.pairs, index);
+        index_anew(&mut self.index, self.pairs.as_slice());
+        pair
     }
 
     /// Moves the pair at an index, which is below the length, to the end; those behind it move up. It takes no memory.
@@ -308,10 +272,8 @@ impl<K: Eq + Hash, V> Table<K, V> {
         requires { index < length self.old }
         ensures { self.new ≡ last_from self.old index }
     {
-        match &mut self.pairs {
-            Pairs::Few(pairs) => move_last(pairs, index),
-            Pairs::Many(map) => move_last_indexed(map.as_mut(), index),
-        }
+        move_last(&mut self.pairs, index);
+        index_anew(&mut self.index, self.pairs.as_slice());
     }
 
     /// Leaves the pairs whose value passes a test, in order.
@@ -323,20 +285,15 @@ impl<K: Eq + Hash, V> Table<K, V> {
         ensures { (test : V → Bool) → Tells F.Fn keep test
             → self.new ≡ filter (λ e. test e.1) self.old }
     {
-        match &mut self.pairs {
-            Pairs::Few(pairs) => retain(pairs, keep),
-            Pairs::Many(map) => retain_indexed(map.as_mut(), keep),
-        }
+        retain(&mut self.pairs, keep);
+        index_anew(&mut self.index, self.pairs.as_slice());
     }
 
     /// Gives back memory that no pair takes.
     pub fn shrink(&mut self)
         ensures { self.new ≡ self.old }
     {
-        match &mut self.pairs {
-            Pairs::Few(pairs) => pairs.shrink_to_fit(),
-            Pairs::Many(map) => map.shrink_to_fit(),
-        }
+        self.pairs.shrink_to_fit();
     }
 
     /// Leaves the first `len` pairs, or all where there are fewer.
@@ -346,10 +303,8 @@ impl<K: Eq + Hash, V> Table<K, V> {
         V: Drop,
         ensures { self.new ≡ take len self.old }
     {
-        match &mut self.pairs {
-            Pairs::Few(pairs) => cut(pairs, len),
-            Pairs::Many(map) => map.truncate(len),
-        }
+        cut_index(&mut self.index, self.pairs.as_slice(), len);
+        cut(&mut self.pairs, len);
     }
 }
 
@@ -357,8 +312,9 @@ impl<K: Eq + Hash, V> Table<K, V> {
 /// both forms, wherever a table is let go.
 impl<K: Eq + Hash + Drop, V: Drop> Drop for Table<K, V> {
     fn drop(self) {
-        let Table { pairs } = self;
+        let Table { pairs, index } = self;
         drop(pairs);
+        drop(index);
     }
 }
 

@@ -27,6 +27,12 @@ impl<A: TryClone, B: TryClone> TryClone for (A, B) {
     }
 }
 
+impl TryClone for () {
+    fn try_clone(&self) -> Result<(), AllocError> {
+        Ok(())
+    }
+}
+
 impl TryClone for bool {
     fn try_clone(&self) -> Result<bool, AllocError> {
         Ok(*self)
