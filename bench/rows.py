@@ -183,13 +183,13 @@ def drawn_choice(size):
 
 JSON, DOT = "witgraph_json", "witgraph_dot"
 ROWS = (
-    Row(types_of_one_hash, (500, 1000), 1.9),
-    Row(functions_of_one_hash, (500, 1000), 1.9),
-    Row(interfaces_of_one_hash, (500, 1000), 1.9),
-    Row(worlds_of_one_hash, (500, 1000), 1.9),
-    Row(features_of_one_hash, (500, 1000), 1.85),
-    Row(labels_of_one_hash, (500, 1000), 1.95),
-    Row(merged_types_of_one_hash, (500, 1000), 1.95),
+    Row(types_of_one_hash, (500, 1000)),
+    Row(functions_of_one_hash, (500, 1000)),
+    Row(interfaces_of_one_hash, (500, 1000)),
+    Row(worlds_of_one_hash, (500, 1000)),
+    Row(features_of_one_hash, (500, 1000)),
+    Row(labels_of_one_hash, (500, 1000)),
+    Row(merged_types_of_one_hash, (500, 1000)),
     Row(members_of_one_hash, (500, 1000), 1.85, JSON),
     Row(merges_of_one_type, (200, 400), 1.85),
     Row(merges_of_one_alias, (100, 200), 1.75),

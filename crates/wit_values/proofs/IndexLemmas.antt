@@ -9,7 +9,10 @@ use Rattle.std.specs.List.{IsDistinct}
 use Rattle.std.specs.Map.{IsKeyTest, keys_of}
 use Rattle.std_collections.proofs.HashLookup.{IsAbsent-from_indices, IsFirst-from_index}
 use Rattle.std.specs.Option.{option_and_then}
-use Rattle.wit_values.specs.Index.{Finds, HasRows, LeavesAt, Meets, behind, far, near, start, turn, way}
+use Rattle.std.specs.Prelude.{Box}
+use Rattle.std.specs.declared.alloc.Global.{Global}
+use Rattle.wit_values.specs.declared.index.Index.{Index}
+use Rattle.wit_values.specs.Index.{Finds, HasRoom, HasRows, Indexes, LeavesAt, Meets, behind, far, near, start, turn, way}
 use Rattle.wit_values.specs.facts.Lists.{push-cases, take-next_at}
 use lib.Bits.{bit_and, and_le_r}
 
@@ -437,3 +440,21 @@ module _ {K V : Type 0} (input : K → HashWrites) (eq : K → K → Bool) (laws
   some_there respects distinct i k at passes =
       let below : i < length es = omega (arith, slice_get_within (keys_of es) i k at, length-map es (λ (e : K × V). e.0)) in
       index-first test es i (IsFirst-from_index eq laws test respects es i k distinct below (ap test (get_or_from_slice_get (keys_of es) i k k at) ∙ passes))
+
+-- ---- the inputs of pairs
+
+module _ {K V : Type 0} (input : K → HashWrites) where
+  pub inputs_take : (n : ℕ) (es : List (K × V)) → map input (keys_of (take n es)) ≡ take n (map input (keys_of es))
+  inputs_take zero [] = refl
+  inputs_take zero (e ∷ es) = refl
+  inputs_take (suc n) [] = refl
+  inputs_take (suc n) (e ∷ es) = ap (λ l. input e.0 ∷ l) (inputs_take n es)
+
+  pub inputs_more : (es : List (K × V)) (k : K) (v : V) → map input (keys_of (es ++ (k, v) ∷ [])) ≡ map input (keys_of es) ++ input k ∷ []
+  inputs_more [] k v = refl
+  inputs_more (e ∷ es) k v = ap (λ l. input e.0 ∷ l) (inputs_more es k v)
+
+-- an index has room for fewer
+pub has_room : (index : Option (Box Index Global)) (keys : List HashWrites) (n : ℕ) → Indexes index keys → n ≤ length keys → HasRoom index n
+has_room None keys n finds fewer = tt
+has_room (Some index) keys n finds fewer = omega (arith, finds.rows.room, fewer)

@@ -102,6 +102,13 @@ module _ {K V : Type 0} where
   IsDistinct-chosen eq (true ∷ bs) (e ∷ es) h = (all-chosen (λ k. eq e.0 k ≡ false) bs es h.0, IsDistinct-chosen eq bs es h.1)
   IsDistinct-chosen eq (false ∷ bs) (e ∷ es) h = IsDistinct-chosen eq bs es h.1
 
+-- they are no more
+pub length-chosen : {X : Type 0} (bs : List Bool) (xs : List X) → length (items_where_true bs xs) ≤ length xs
+length-chosen [] xs = omega arith
+length-chosen (b ∷ bs) [] = omega arith
+length-chosen (true ∷ bs) (x ∷ xs) = omega (arith, length-chosen bs xs)
+length-chosen (false ∷ bs) (x ∷ xs) = omega (arith, length-chosen bs xs)
+
 -- what a closure says of a value is what its test says
 pub told : {F V : Type 0} {g : Shared F (Bor V × Unit {0}) Bool} {keep : F} {test : V → Bool} → Tells g keep test → (v w : V) (says : Bool) → FnReturnsAt g keep v says → v ≡ w → says ≡ test w
 told {test = test} tells v w says fact same = tells v says fact ∙ ap test same

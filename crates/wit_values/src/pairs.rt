@@ -161,6 +161,7 @@ pub(crate) fn retain<K: Eq + Drop, V: Drop, F: Fn(&V) -> bool>(pairs: &mut Vec<(
     requires { F.IsAlwaysCallable keep }
     ensures kept { (test : V → Bool) → Tells F.Fn keep test
         → pairs.new.items ≡ filter (λ e. test e.1) pairs.old.items }
+    ensures shorter { length pairs.new.items ≤ length pairs.old.items }
     ensures distinct { IsDistinct K.eq (keys_of pairs.old.items)
         → IsDistinct K.eq (keys_of pairs.new.items) }
 {
