@@ -1,5 +1,5 @@
 -- A set of texts, and the table whose names they are.
-use Rattle.std.proofs.Common.{◌≡◌, ◌++◌, ◌∷◌, [], ℕ, suc, zero, Bool, true, false, cond, List, None, Option, Some, ap, is_some, length, map, refl, slice_get}
+use Rattle.std.proofs.Common.{◌≡◌, ◌++◌, ◌∷◌, ◌||◌, [], ℕ, suc, zero, Bool, true, false, cond, List, None, Option, Some, ap, is_some, length, map, refl, slice_get}
 use Rattle.std.specs.List.{list_any}
 use Rattle.std.specs.Map.{keys_of, lookup}
 
@@ -14,7 +14,7 @@ module _ {K V : Type 0} where
   is_there test (e ∷ es) = by (test e.0) (is_there test es)
     where
       by : (b : Bool) → is_some (lookup test es) ≡ list_any test (keys_of es)
-          → is_some (cond b (Some e.1) (lookup test es)) ≡ cond b true (list_any test (keys_of es))
+          → is_some (cond b (Some e.1) (lookup test es)) ≡ (b || list_any test (keys_of es))
       by true rest = refl
       by false rest = rest
 
