@@ -1,5 +1,5 @@
 -- Ways that lead from link to link.
-use Rattle.std.proofs.Common.{◌≡◌, ◌∙◌, ◌+◌, ◌-◌, ◌*◌, ◌<◌, ◌≤◌, ◌≢◌, true≢false, is_some, map, ◌/◌, ◌%◌, ◌^◌, ◌⊎◌, inl, inr, ℕ, zero, suc, Bool, true, false, cond, List, [], ◌∷◌, ◌++◌, None, Some, Option, ap, arith, get_or, length, length-append,  le-ltb, lt-ltb, ltb-true, ltb-false, nat_lt, position, refl, slice_get, slice_index, slice_set, subst, sym, take, unwrap_or}
+use Rattle.std.proofs.Common.{◌≡◌, ◌∙◌, ◌+◌, ◌-◌, ◌*◌, ◌<◌, ◌≤◌, ◌≢◌, true≢false, is_some, map, ◌/◌, ◌%◌, ◌^◌, ◌⊎◌, inl, inr, ℕ, zero, suc, Bool, true, false, cond, List, [], ◌∷◌, ◌++◌, None, Some, Option, ap, arith, get_or, length, length-append, le-ltb, lt-ltb, ltb-true, ltb-false, nat_lt, position, refl, slice_get, slice_index, slice_set, subst, sym, take, unwrap_or}
 use Rattle.std.proofs.lemmas.List.{get_or_default, get_or-set_same, get_or-set_other, length-map, length-set, length-take-le, length_push}
 use Rattle.std.proofs.lemmas.Option.{get_or_from_slice_get, slice_get-get_or, slice_get_within}
 use Rattle.indexmap.proofs.MapLemmas.{index-absent, index-first}
@@ -64,6 +64,7 @@ module _ (heads : ℕ) (links : List ℕ) (count : ℕ) (key : HashWrites) where
           → cond b (Some (heads + 2 * slice_index links before + turn key turns)) None ≡ Some place → Behind heads links count key turns place
       through before true test is h = record { before = before; on = is; leads = ltb-true _ _ test; is = same_some h }
       through before false test is h = absurd (none_some h)
+
       by : (o : Option ℕ) → way heads links count key turns ≡ o → option_and_then (behind heads links count (turn key turns)) o ≡ Some place → Behind heads links count key turns place
       by None is h = absurd (none_some h)
       by (Some before) is h = through before (nat_lt (slice_index links before) count) refl is h
@@ -106,7 +107,7 @@ fewer heads links hashes count few key has zero place on leads = on
 fewer heads links hashes count few key has (suc turns) place on leads =
     let b = came heads links count key turns place on in
     let later : slice_index links b.before < slice_index links place =
-        subst (λ p. slice_index links b.before < slice_index links p) b.is (has.later (slice_index links b.before) (turn key turns) b.leads (turn_small key turns)) in
+    subst (λ p. slice_index links b.before < slice_index links p) b.is (has.later (slice_index links b.before) (turn key turns) b.leads (turn_small key turns)) in
     let below : slice_index links b.before < few = omega (arith, later, leads) in
     goes_on heads links few key turns b.before (fewer heads links hashes count few key has turns b.before b.on below) below ∙ ap Some b.is
 
@@ -182,7 +183,7 @@ length_taken xs i within = length-take-le i xs within
 -- no pairs have an index of any links
 pub finds_none : (heads : ℕ) (links hashes : List ℕ) → 0 < heads → heads ≤ 2 ^ 31 → length links ≡ 3 * heads → length hashes ≡ heads → Finds heads links hashes []
 finds_none heads links hashes some fits long also = record {
-  rows = record { some = some; fits = fits; room = omega arith; links_long = long; hashes_long = also; later = λ i goes below. absurd (omega (arith, below)); };
+  rows = record { some = some; fits = fits; room = omega arith; links_long = long; hashes_long = also; later = λ i goes below. absurd (omega (arith, below)) };
   hashed = λ i key at. cc;
   met = λ i key at. cc;
 }
@@ -190,7 +191,11 @@ finds_none heads links hashes some fits long also = record {
 -- an index finds fewer pairs, too
 pub has_fewer : (heads : ℕ) (links hashes : List ℕ) (count few : ℕ) → few ≤ count → HasRows heads links hashes count → HasRows heads links hashes few
 has_fewer heads links hashes count few below has = record {
-  some = has.some; fits = has.fits; room = omega (arith, below, has.room); links_long = has.links_long; hashes_long = has.hashes_long;
+  some = has.some;
+  fits = has.fits;
+  room = omega (arith, below, has.room);
+  links_long = has.links_long;
+  hashes_long = has.hashes_long;
   later = λ i goes there small. has.later i goes (omega (arith, there, below)) small;
 }
 
@@ -219,9 +224,13 @@ finds_fewer heads links hashes keys n finds = record {
   rows = has_fewer heads links hashes (length keys) (length (take n keys)) (length_take n keys) finds.rows;
   hashed = λ i key at. finds.hashed i key (slice_get_take n keys i key at);
   met = λ i key at.
-    let m = finds.met i key (slice_get_take n keys i key at) in
-    (m.0, m.1, fewer heads links hashes (length keys) (length (take n keys)) key finds.rows m.0 m.1 m.2
-      (subst (λ k. k < length (take n keys)) (sym m.3) (slice_get_within (take n keys) i key at)), m.3);
+      let m = finds.met i key (slice_get_take n keys i key at) in (
+        m.0,
+        m.1,
+        fewer heads links hashes (length keys) (length (take n keys)) key finds.rows m.0 m.1 m.2
+            (subst (λ k. k < length (take n keys)) (sym m.3) (slice_get_within (take n keys) i key at)),
+        m.3,
+      );
 }
 
 -- a link that leads to no pair may lead anywhere else where no pair is
@@ -230,17 +239,21 @@ pub finds_cut : (heads : ℕ) (links hashes : List ℕ) (keys : List HashWrites)
 finds_cut heads links hashes keys end none far left finds =
     let has = finds.rows in
     let same : (place : ℕ) → slice_index links place < length keys → slice_index (slice_set links end none) place ≡ slice_index links place =
-        λ place leads. get_or-set_other links end place none 0 (λ is. absurd (omega (arith, leads, left, ap (slice_index links) is))) in
+    λ place leads. get_or-set_other links end place none 0 (λ is. absurd (omega (arith, leads, left, ap (slice_index links) is))) in
     record {
       rows = record {
-        some = has.some; fits = has.fits; room = has.room; links_long = length-set links end none ∙ has.links_long; hashes_long = has.hashes_long;
+        some = has.some;
+        fits = has.fits;
+        room = has.room;
+        links_long = length-set links end none ∙ has.links_long;
+        hashes_long = has.hashes_long;
         later = λ i goes there small. set_later links end none (heads + 2 * i + goes) i (omega (arith, there, far)) (has.later i goes there small);
       };
       hashed = finds.hashed;
       met = λ i key at.
-        let m = finds.met i key at in
-        let below : slice_index links m.1 < length keys = subst (λ k. k < length keys) (sym m.3) (slice_get_within keys i key at) in
-        (m.0, m.1, kept heads links (slice_set links end none) (length keys) (length keys) key has.some (omega arith) (λ place _. same place) m.0 m.1 m.2, same m.1 below ∙ m.3);
+          let m = finds.met i key at in
+          let below : slice_index links m.1 < length keys = subst (λ k. k < length keys) (sym m.3) (slice_get_within keys i key at) in
+          (m.0, m.1, kept heads links (slice_set links end none) (length keys) (length keys) key has.some (omega arith) (λ place _. same place) m.0 m.1 m.2, same m.1 below ∙ m.3);
     }
   where
     set_later : (ls : List ℕ) (at with place i : ℕ) → i < with → i < slice_index ls place → i < slice_index (slice_set ls at with) place
@@ -335,7 +348,9 @@ module _ (heads : ℕ) (links hashes : List ℕ) (keys : List HashWrites) (key :
   rows_with : HasRows heads (linked links (heads + 2 * length keys) none end (length keys)) (slice_set hashes (length keys) (near key)) (length (keys ++ key ∷ []))
   unfolding linked
   rows_with = record {
-    some = finds.rows.some; fits = finds.rows.fits; room = omega (arith, length_push keys key, room);
+    some = finds.rows.some;
+    fits = finds.rows.fits;
+    room = omega (arith, length_push keys key, room);
     links_long = length-set (slice_set (slice_set links (heads + 2 * length keys) none) (heads + 2 * length keys + 1) none) end (length keys)
         ∙ length-set (slice_set links (heads + 2 * length keys) none) (heads + 2 * length keys + 1) none ∙ length-set links (heads + 2 * length keys) none ∙ long;
     hashes_long = length-set hashes (length keys) (near key) ∙ finds.rows.hashes_long;
@@ -366,7 +381,7 @@ module _ (heads : ℕ) (links hashes : List ℕ) (keys : List HashWrites) (key :
   pub added : Finds heads (slice_set (slice_set (slice_set links (heads + 2 * length keys) none) (heads + 2 * length keys + 1) none) end (length keys))
       (slice_set hashes (length keys) (near key)) (keys ++ key ∷ [])
   unfolding linked
-  added = record { rows = rows_with; hashed = hashed_with; met = met_with; }
+  added = record { rows = rows_with; hashed = hashed_with; met = met_with }
 
 pub key_there : {K V : Type 0} (es : List (K × V)) (i : ℕ) (e : K × V) → slice_get es i ≡ Some e → slice_get (keys_of es) i ≡ Some e.0
 key_there [] i e at = absurd (none_some at)
@@ -417,12 +432,13 @@ module _ {K V : Type 0} (input : K → HashWrites) (eq : K → K → Bool) (laws
       → length es ≤ slice_index links place → Missed heads links turns → position test (keys_of es) ≡ None
   none_there heads links hashes finds turns place on left missed =
       index-absent test es (IsAbsent-from_indices test es (λ i d below.
-        let within_keys : i < length (keys_of es) = omega (arith, below, length-map es (λ (e : K × V). e.0)) in
-        by i (get_or (keys_of es) i d) below (slice_get-get_or (keys_of es) i d within_keys) (test (get_or (keys_of es) i d)) refl))
+      let within_keys : i < length (keys_of es) = omega (arith, below, length-map es (λ (e : K × V). e.0)) in
+      by i (get_or (keys_of es) i d) below (slice_get-get_or (keys_of es) i d within_keys) (test (get_or (keys_of es) i d)) refl))
     where
       met : (i : ℕ) (k : K) → slice_get (keys_of es) i ≡ Some k → key ≡ input k → Meets heads links (length es) key i
       met i k at same = subst (λ o. Meets heads links (length es) o i) (sym same)
           (subst (λ n. Meets heads links n (input k) i) (long_inputs input es) (finds.met i (input k) (input_at (keys_of es) i k at)))
+
       by : (i : ℕ) (k : K) → i < length es → slice_get (keys_of es) i ≡ Some k → (b : Bool) → test k ≡ b → test k ≡ false
       by i k below at false is = is
       by i k below at true is =

@@ -4,7 +4,7 @@
 //! text as its bytes, a list as a list, a table as its pairs in order, a version as its parts. So
 //! two values are equal in a contract where they hold the same data, whatever memory they take.
 //! Each is made from its std type and gives it back without memory, but for a version, which lies on the heap,
-//! and a table: of few pairs it keeps a list, of many an `IndexMap`, so it takes memory to be made of an `IndexMap`
+//! and a table: it keeps a list of pairs, and of many an index, so it takes memory to be made of an `IndexMap`
 //! or to become one.
 #![tactic(auto)]
 

@@ -90,7 +90,11 @@ pub(crate) fn index_anew<K: Eq + Hash, V>(index: &mut Option<Box<Index>>, pairs:
 }
 
 /// Leaves the first `len` pairs in an index.
-pub(crate) fn cut_index<K: Eq + Hash, V>(index: &mut Option<Box<Index>>, pairs: &[(K, V)], len: usize)
+pub(crate) fn cut_index<K: Eq + Hash, V>(
+    index: &mut Option<Box<Index>>,
+    pairs: &[(K, V)],
+    len: usize,
+)
     requires { Indexes index.old (map K.hash_input (keys_of pairs.now)) }
     ensures { Indexes index.new (take len (map K.hash_input (keys_of pairs.now))) }
 {
@@ -172,4 +176,3 @@ pub(crate) fn retain<K: Eq + Drop, V: Drop, F: Fn(&V) -> bool>(pairs: &mut Vec<(
         { keep(&pair.1) },
     );
 }
-

@@ -18,9 +18,9 @@ use crate::table_iter::{IntoPairs, TableIter};
 use crate::try_clone::{TryClone, try_clone_two};
 use indexmap::{Equivalent, IndexMap};
 use std::alloc::{AllocError, Global};
+use std::fmt;
 use std::hash::Hash;
 use std::marker::Model;
-use std::fmt;
 
 /// A table in insertion order, whose keys differ. Indices count from 0.
 ///

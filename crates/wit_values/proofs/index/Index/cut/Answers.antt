@@ -33,7 +33,7 @@ without_last : (heads : ℕ) (links hashes : List ℕ) (all : List HashWrites) (
     → Finds heads links hashes (take left all) → Finds heads (slice_set links end 4294967295) hashes (take (left - 1) all)
 without_last heads links hashes all left end within_all some leaves finds =
     let fewer : Finds heads links hashes (take (left - 1) all) =
-        subst (Finds heads links hashes) (take-take (left - 1) left all (omega arith)) (finds_fewer heads links hashes (take left all) (left - 1) finds) in
+    subst (Finds heads links hashes) (take-take (left - 1) left all (omega arith)) (finds_fewer heads links hashes (take left all) (left - 1) finds) in
     let long = length_taken all (left - 1) (omega (arith, within_all)) in
     finds_cut heads links hashes (take (left - 1) all) end 4294967295 (omega (arith, long, fewer.rows.room, fewer.rows.fits)) (omega (arith, long, leaves)) fewer
 

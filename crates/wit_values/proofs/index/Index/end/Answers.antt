@@ -22,5 +22,5 @@ loop-key-preserved g c =
     let on = is_on index.heads index.links.items index.hashes.items c.args.count key c.requires.links c.loop-key.turns c.loop-key.place c.loop-key.invariant.on in
     let at : slice_index index.links.items c.loop-key.place ≡ c.index.result.now = read index.links.items c.loop-key.place c.index.result.now (omega (arith, on.within, c.requires.links.links_long)) c.index.ensures in
     let next = turned index.heads index.links.items index.hashes.items c.args.count key c.requires.links c.loop-key.turns c.loop-key.place c.index.result.now c.turn.result
-        c.loop-key.invariant.on c.loop-key.invariant.shallow at c.if-count-at.false c.turn.ensures.value in
-    record { on = next.on; shallow = next.shallow; }
+    c.loop-key.invariant.on c.loop-key.invariant.shallow at c.if-count-at.false c.turn.ensures.value in
+    record { on = next.on; shallow = next.shallow }

@@ -43,17 +43,17 @@ loop-key-preserved g c =
     let on = is_on heads links hashes (length es) key rows c.loop-key.turns c.loop-key.place c.loop-key.invariant.on in
     let at : slice_index links c.loop-key.place ≡ c.index.result.now = read links c.loop-key.place c.index.result.now (omega (arith, on.within, rows.links_long)) c.index.ensures in
     let next = turned heads links hashes (length es) key rows c.loop-key.turns c.loop-key.place c.index.result.now c.turn.result
-        c.loop-key.invariant.on c.loop-key.invariant.shallow at c.if-pairs-at.false c.turn.ensures.value in
+    c.loop-key.invariant.on c.loop-key.invariant.shallow at c.if-pairs-at.false c.turn.ensures.value in
     let hash : slice_index hashes c.index.result.now ≡ c.index-in-loop-key.result.now =
-        read hashes c.index.result.now c.index-in-loop-key.result.now (omega (arith, c.if-pairs-at.false, rows.room, rows.hashes_long)) c.index-in-loop-key.ensures in
+    read hashes c.index.result.now c.index-in-loop-key.result.now (omega (arith, c.if-pairs-at.false, rows.room, rows.hashes_long)) c.index-in-loop-key.ensures in
     let not_here : (k : g.row.K.Denot) → slice_get (keys_of es) c.index.result.now ≡ Some k → test k ≡ false =
-        elim c.else-index-hash.branch [
-          | else-index-hash-via-then-index-hash+else-equivalent w ↦
-              fails_there test es c.index.result.now _ (slice_get-get_or es c.index.result.now w.index-pairs-at.result c.if-pairs-at.false) (sym w.equivalent.ensures ∙ w.if-equivalent.false)
-          | else-index-hash-via-else-index-hash w ↦
-              other_hash g.K.Hash.hash_input g.K.PartialEq.eq g.met.K.Eq.laws test key (g.met.Q.Equivalent.respects_hash c.args.key) es heads links hashes c.requires.pairs c.index.result.now
-              (λ is. w.if-index-hash.false (sym hash ∙ is ∙ sym c.near_hash-hash.ensures))
-        ] in
+    elim c.else-index-hash.branch [
+      | else-index-hash-via-then-index-hash+else-equivalent w ↦
+          fails_there test es c.index.result.now _ (slice_get-get_or es c.index.result.now w.index-pairs-at.result c.if-pairs-at.false) (sym w.equivalent.ensures ∙ w.if-equivalent.false)
+      | else-index-hash-via-else-index-hash w ↦
+          other_hash g.K.Hash.hash_input g.K.PartialEq.eq g.met.K.Eq.laws test key (g.met.Q.Equivalent.respects_hash c.args.key) es heads links hashes c.requires.pairs c.index.result.now
+          (λ is. w.if-index-hash.false (sym hash ∙ is ∙ sym c.near_hash-hash.ensures))
+    ] in
     record {
       on = next.on;
       shallow = next.shallow;
