@@ -26,7 +26,7 @@ ASIDE = re.compile(r"(test|examples)_")
 LIMITS = {
     "wide clauses": 0,
     "wide clauses that are public": 0,
-    "wide definitions": 9,
+    "wide definitions": 8,
     "wide definitions that are public": 5,
     "functions that stand twice": 2,
     "definitions that are believed, not at the top": 18,

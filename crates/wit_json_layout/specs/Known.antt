@@ -1,4 +1,4 @@
--- A JSON value without the members that its layout hasn't.
+-- A JSON value without the members that its layout lacks.
 use Rattle.std.specs.Prelude.{ℕ, List, Option, Some, None}
 use Rattle.std.specs.Option.{option_map}
 use Rattle.json.specs.Json.{Json, null, boolean, number, string, array, object, Items, no_items, item, Members, no_members, member}
@@ -11,7 +11,7 @@ member_if name None ms = ms
 member_if name (Some j) ms = member name j ms
 
 abbrev mutual
-  -- what a layout has of a value: all of it but the members of objects that the layout hasn't
+  -- a value without the members that its layout lacks, at any depth
   pub known_part : Layout → Json → Json
   known_part layout null = null
   known_part layout (boolean b) = boolean b

@@ -1,4 +1,4 @@
-//! A value without the members that its layout hasn't.
+//! A value without the members that its layout lacks.
 ghost use Rattle.std.specs.Prelude.{◌≡◌, IfOk};
 ghost use Rattle.json.specs.Value.{items_view, members_view, value_view};
 ghost use Rattle.wit_json_layout.specs.Known.{known_items, known_members, known_part};
@@ -7,8 +7,7 @@ use crate::layout::Layout;
 use json::Value;
 use std::alloc::{AllocError, Global};
 
-/// What a layout has of a value: all of it but the members of objects that the layout hasn't. The only error is want of
-/// memory.
+/// A value without the members that its layout lacks, at any depth. The only error is want of memory.
 #[cycle(known)]
 pub fn known_part<'a>(
     alloc: Global,
@@ -27,7 +26,7 @@ pub fn known_part<'a>(
     }
 }
 
-/// The items of a list, each without what its layout hasn't.
+/// The items of a list, each without what its layout lacks.
 #[cycle(known)]
 fn known_items<'a>(
     alloc: Global,
@@ -45,7 +44,7 @@ fn known_items<'a>(
     Ok(known)
 }
 
-/// The members of an object that its layout has, each without what its own layout hasn't.
+/// The members of an object that its layout has, each without what its own layout lacks.
 #[cycle(known)]
 fn known_members<'a>(
     alloc: Global,
