@@ -1,10 +1,11 @@
 -- The steps of the search for the first package that lacks its shape.
-use Rattle.std.proofs.Common.{◌≡◌, ◌+◌, ℕ, List, Option, None, Some, Result, slice_get, is_some, ap}
+use Rattle.std.proofs.Common.{◌≡◌, ◌+◌, ℕ, List, Option, None, Some, Result, slice_get, is_some, ap, subst}
 use Rattle.std.proofs.lemmas.Result.{IfOk-weaker}
 use Rattle.std.specs.Prelude.{◌↔◌, IfOk, IsNone}
 use Rattle.wit_data.specs.Each.{Each}
-use Rattle.wit_data.specs.Shape.{IsShaped}
+use Rattle.wit_data.specs.Shape.{IsGroupShaped, IsShaped}
 use Rattle.wit_data.specs.declared.unresolved.UnresolvedPackage.{UnresolvedPackage}
+use Rattle.wit_data.specs.declared.unresolved.UnresolvedPackageGroup.{UnresolvedPackageGroup}
 use Rattle.wit_data.specs.facts.EachFacts.{EachBelow, one_more}
 use Rattle.wit_shape.specs.declared.fault.ShapeFault.{ShapeFault}
 
@@ -21,3 +22,11 @@ pub main_and_nested : (main : UnresolvedPackage) (nested : List UnresolvedPackag
     → IsNone found ↔ IsShaped main → found ≡ None → IfOk rest (λ more. IsNone more → Each IsShaped nested)
     → IfOk rest (λ more. IsNone more → (IsShaped main) × (Each IsShaped nested))
 main_and_nested main nested rest none is each = IfOk-weaker rest _ _ (λ _ others without. (none.0 (is_none is), others without)) each
+
+-- a group of packages of which none lacks its shape has its own
+pub shaped : (group : UnresolvedPackageGroup) (nested : List UnresolvedPackage) {A : Type 0} {found : Option A}
+    → (IsNone found → (IsShaped group.main) × (Each IsShaped nested)) → found ≡ None → nested ≡ group.nested → IsGroupShaped group
+shaped group nested told none same = record {
+  main = (told (is_none none)).0;
+  nested = subst (λ (packages : List UnresolvedPackage). Each IsShaped packages) same (told (is_none none)).1;
+}

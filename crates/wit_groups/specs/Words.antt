@@ -1,5 +1,5 @@
 -- What faults of files say: the words of wit-parser.
-use Rattle.std.specs.Prelude.{ℕ, List, [], ◌++◌, Option, Some, option_map, codes}
+use Rattle.std.specs.Prelude.{ℕ, List, [], ◌++◌, Option, Some, codes}
 use Rattle.wit_groups.specs.declared.fault.EntrySide.TheVariants as side
 use Rattle.wit_groups.specs.declared.fault.EntrySort.TheVariants as sort
 use Rattle.wit_groups.specs.declared.fault.GroupFault.{GroupFault}

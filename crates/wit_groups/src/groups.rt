@@ -102,8 +102,8 @@ pub struct Groups {
     pub deps: Items<UnresolvedPackageGroup>,
 }
 
-/// The packages of the files of a package, and those of its dependencies, each from its files. The first fault is told: of the
-/// main package before those of others.
+/// The packages of the files of a package, and those of its dependencies, each from its files. The
+/// first fault is told: of the main package before those of others.
 pub fn read_groups(
     alloc: Global,
     main: SourceMap,

@@ -1,5 +1,5 @@
-//! What a package names by paths, in the order in which wit-parser meets it: of a world the imports before the exports, behind
-//! all else.
+//! What a package names by paths, in the order in which wit-parser meets it: of a world the imports
+//! before the exports, behind all else.
 
 use crate::written::Part;
 use std::alloc::{AllocError, Global};
