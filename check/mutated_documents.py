@@ -34,6 +34,9 @@ import compare  # noqa: E402
 import random_documents  # noqa: E402
 import script_documents  # noqa: E402
 
+# The members of a fault, and those that it has besides if a graph isn't valid.
+FAULT, BREACH = {"path", "offset", "line", "column", "expected"}, {"clause", "message"}
+
 SCALARS = [
     None, True, False, 0, 1, 2, 3, 7, 63, 128, 4294967295, 4294967296, 18446744073709551615, 18446744073709551616, 10**30, -1,
     1.0, 1.5, 1e300, "", "a", "u8", "string", "resource", "unknown", "freestanding", "a:b", "a:b@1.0.0", "a:b/c@1.0.0", "A-b",
@@ -287,7 +290,8 @@ def wrong(text, status, out):
         return "not compact, or a name stands twice in an object"
     if status == 1:
         fault = output["fault"]
-        return None if set(output) == {"fault"} and set(fault) == {"path", "offset", "line", "column", "expected"} and fault["offset"] <= len(text) else "fault"
+        members = FAULT | (BREACH if fault.get("expected") == "a valid graph" else set())
+        return None if set(output) == {"fault"} and set(fault) == members and fault["offset"] <= len(text) else "fault"
     asked = json.loads(text)
     return None if len(output["replies"]) == len(asked["commands"]) and set(output) == {"replies", "resolve"} else "replies"
 
